@@ -46,9 +46,11 @@ impl Ring {
         let _ = self.records.push_back(newest);
     }
 
-    /// Appends records in order. Allocates nothing.
-    pub fn push_all(&mut self, records: Vec<Record>)
-        ensures { self.new ≡ newest_of (self.old ++ records.items) }
+    /// Moves records here in order, and leaves their list empty. Allocates nothing.
+    #[inline(always)]
+    pub fn push_all(&mut self, records: &mut Vec<Record>)
+        ensures ring { self.new ≡ newest_of (self.old ++ records.old.items) }
+        ensures empty { records.new.items ≡ [] }
     {
         let _held = self.records.len();
         if records.is_empty() {
@@ -59,11 +61,12 @@ impl Ring {
 
     /// The same, out of line: few requests have records, and the others shouldn't pay for a record's locals.
     #[inline(never)]
-    fn push_each(&mut self, records: Vec<Record>)
-        ensures { self.new ≡ newest_of (self.old ++ records.items) }
+    fn push_each(&mut self, records: &mut Vec<Record>)
+        ensures ring { self.new ≡ newest_of (self.old ++ records.old.items) }
+        ensures empty { records.new.items ≡ [] }
     {
-        let _ = self.records.len();
-        for newest in records {
+        let _held = self.records.len();
+        for newest in records.drain(..) {
             self.push(newest);
         }
     }

@@ -150,14 +150,15 @@ fn opening_line(alloc: Global, refusal: &Refusal) -> Result<Vec<u8>, AllocError>
     ensures { IfOk result (λ line. line.items ≡ spec.opening_line refusal.now) }
 {
     match refusal {
-        Refusal::Denied(
+        Refusal::Denied(denial) => match denial.get() {
             Denial::Rule {
                 source,
                 target,
                 class,
                 perm,
-            },
-        ) => denied_line(alloc, source.bytes(), target.bytes(), *class, *perm),
+            } => denied_line(alloc, source.bytes(), target.bytes(), *class, *perm),
+            _ => Vec::from_slice(alloc, b"fault: the manager was not opened\n"),
+        },
         Refusal::Memory => Vec::from_slice(alloc, NO_MEMORY),
         _ => Vec::from_slice(alloc, b"fault: the manager was not opened\n"),
     }

@@ -89,7 +89,7 @@ fn reason_bytes(reason: &Reason) -> u64
     ensures { result ≡ spec.reason_bytes reason.now }
 {
     match reason {
-        Reason::Denied(denial) => denial_bytes(denial),
+        Reason::Denied(denial) => denial_bytes(denial.get()),
         Reason::TargetFull => 0,
     }
 }

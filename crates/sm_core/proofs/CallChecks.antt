@@ -9,9 +9,8 @@ use Rattle.sm_history.specs.Records.{Moment}
 use Rattle.sm_history.specs.declared.records.Record.{Record}
 use Rattle.sm_history.specs.declared.refusal.Refusal.TheVariants.{Failed}
 use Rattle.sm_history.specs.declared.refusal.Failure.TheVariants.{BadHandle, TargetFull}
-use Rattle.sm_history.specs.declared.failed_check.FailedCheck.{FailedCheck}
-use Rattle.sm_history.specs.declared.failed_check.FailedCheck.TheVariants.{Unmet}
-use Rattle.sm_history.specs.declared.failed_check.EarlyAnswer.TheVariants.{Refused}
+use Rattle.sm_history.specs.declared.reply.Reply.{Reply, TheVariants.Refused}
+use Rattle.sm_history.specs.EarlyAnswers.{Refused as Refuses}
 use Rattle.sm_history.specs.Effects.{Effects}
 use Rattle.sm_history.specs.Clients.{is_live}
 use Rattle.sm_history.specs.Checks.{Check, Wants}
@@ -28,14 +27,14 @@ use Rattle.sm_core.specs.Calling.{target_checks, room_check}
 use Rattle.sm_core.proofs.Stopping.{halts_first, halts_then, pass_both, pass_first}
 
 -- Checks are stopped at where what is left of them is.
-halts_alike : (m : Moment) (old mid new : List Record) (all xs : List Check) (s : FailedCheck)
+halts_alike : (m : Moment) (old mid new : List Record) (all xs : List Check) (s : Reply)
     → after_checks m old all ≡ after_checks m mid xs → Halts m mid new xs s → Halts m old new all s
 halts_alike m old mid new all xs s e (inl w) = inl w
 halts_alike m old mid new all xs s e (inr h) = inr (e ∙ h)
 
 -- The references from one on are stopped at that one.
 pub halts_left : (m : Moment) (old mid new : List Record) (d : Effects) (c k : ℕ) (refs left rest : List ObjRef)
-    (r : ObjRef) (s : FailedCheck)
+    (r : ObjRef) (s : Reply)
     → after_checks m old (all_pass_to_client d c k refs) ≡ after_checks m mid (all_pass_to_client d c k left)
     → left ≡ r ∷ rest
     → Halts m mid new (passes_to_client d c k r) s → Halts m old new (all_pass_to_client d c k refs) s
@@ -81,14 +80,14 @@ all_named m old new d c k refs left named e names none = (
 abbrev room_behind : Effects → ℕ → Node → List ObjRef → List Check
 room_behind d c n refs =
     Wants (has_inbox_room d n.owner.0 && fits_handles (handed_refs d c n.owner.0 refs) n.owner.0)
-    (Refused (Failed TargetFull)) ∷ []
+    (Refuses (Failed TargetFull)) ∷ []
 
 room_is : (d : Effects) (c : ℕ) (n : Node) (refs : List ObjRef) (named : List (Option Node)) → Sound d
     → is_live d n.owner.0 ≡ true → AreNamed d c refs named
     → room_check d n.owner.0 (others n.owner.0 named) ≡ room_behind d c n refs
 room_is d c n refs named s live are =
     ap (λ (e : Effects). Wants (has_inbox_room d n.owner.0 && fits_handles e n.owner.0)
-    (Refused (Failed TargetFull)) ∷ []) (sym (handed_are d c n.owner.0 refs named s live are).1)
+    (Refuses (Failed TargetFull)) ∷ []) (sym (handed_are d c n.owner.0 refs named s live are).1)
 
 checks_are : (d : Effects) (c handle : ℕ) (n : Node) (refs : List ObjRef) → node_at d c handle ≡ Some n
     → target_checks d c (node_at d c handle) ++ (all_pass_to_client d c n.owner.0 refs ++ room_behind d c n refs)
@@ -96,12 +95,12 @@ checks_are : (d : Effects) (c handle : ℕ) (n : Node) (refs : List ObjRef) → 
 checks_are d c handle n refs at =
     ap (λ (o : Option Node). target_checks d c o ++ (all_pass_to_client d c n.owner.0 refs ++ room_behind d c n refs))
     at ∙
-    sym (ap (λ (o : Option Node). Wants (is_some o) (Refused (Failed BadHandle)) ∷ object_checks d c refs (found o))
+    sym (ap (λ (o : Option Node). Wants (is_some o) (Refuses (Failed BadHandle)) ∷ object_checks d c refs (found o))
     at)
 
 -- A call whose target passes is stopped at one of its references, or at its receiver's room, or at no check.
 pub references_halt : (m : Moment) (old one new : List Record) (d : Effects) (c handle : ℕ) (n : Node)
-    (refs : List ObjRef) (s : FailedCheck)
+    (refs : List ObjRef) (s : Reply)
     → AllPass m old one (target_checks d c (node_at d c handle)) → node_at d c handle ≡ Some n
     → Halts m one new (all_pass_to_client d c n.owner.0 refs) s
     → Halts m old new (call_checks d c handle refs) s
@@ -117,9 +116,9 @@ pub room_halts : (m : Moment) (old one new : List Record) (d : Effects) (c handl
     → Sound d → is_live d n.owner.0 ≡ true → AreNamed d c refs named
     → AllPass m one new (all_pass_to_client d c n.owner.0 refs)
     → (has_inbox_room d n.owner.0 && fits_handles (after_grants d n.owner.0 (others n.owner.0 named)) n.owner.0) ≡ false
-    → Halts m old new (call_checks d c handle refs) (Unmet (Refused (Failed TargetFull)))
+    → Halts m old new (call_checks d c handle refs) (Refused (Failed TargetFull))
 room_halts m old one new d c handle n refs named target at sound live are pass full =
-    let s = Unmet (Refused (Failed TargetFull)) in
+    let s : Reply = Refused (Failed TargetFull) in
     let h : Halts m new new (room_check d n.owner.0 (others n.owner.0 named)) s = inr (rw full refl) in
     subst (λ (xs : List Check). Halts m old new xs s) (checks_are d c handle n refs at)
     (halts_then m old one new (target_checks d c (node_at d c handle))

@@ -1,6 +1,7 @@
 -- The effects of a call: grants of what its references name, and a delivery.
 use Rattle.std.proofs.Common.{◌≡◌, inl, Ok, Err, ℕ, suc, ◌+◌, ◌≤◌, Bool, true, false, ◌==◌, List, [], ◌∷◌, ◌++◌}
 use Rattle.std.proofs.Common.{Option, Some, None, refl, ap, sym, ◌∙◌, subst, length, if◌then◌else◌, arith}
+use Rattle.std.specs.Global.{Vec}
 use Rattle.std.specs.Prelude.{nat_le, ◌&&◌, Result, MatchResult}
 use Rattle.std.proofs.lemmas.Bool.{and_parts}
 use Rattle.std.proofs.lemmas.Bool.Decides.{nat_tests}
@@ -12,8 +13,8 @@ use Rattle.sm_history.specs.declared.delivery.Message.TheVariants.{Called}
 use Rattle.sm_history.specs.declared.effect.Effect.{Effect}
 use Rattle.sm_history.specs.declared.effect.Effect.TheVariants.{Gives, Delivers}
 use Rattle.sm_history.specs.declared.event.Event.TheVariants.{Call}
-use Rattle.sm_history.specs.declared.outcome.Outcome.TheVariants.{Sent}
-use Rattle.sm_history.specs.declared.failed_check.FailedCheck.{FailedCheck}
+use Rattle.sm_history.specs.declared.outcome.Outcome.{Outcome, TheVariants.Sent}
+use Rattle.sm_history.specs.declared.reply.Reply.{Reply}
 use Rattle.sm_history.specs.declared.records.Record.{Record}
 use Rattle.sm_history.specs.Records.{Moment, moment_of}
 use Rattle.sm_history.specs.Effects.{Effects}
@@ -23,16 +24,16 @@ use Rattle.sm_history.specs.Histories.{History, effects_of, found, handed_refs, 
 use Rattle.sm_history.specs.Inboxes.{has_inbox_room}
 use Rattle.sm_history.specs.Following.{MayFollowApart, MayAllApart, followed}
 use Rattle.sm_history.specs.Sound.{Sound}
-use Rattle.sm_history.specs.Verdict.{all_pass_to_client}
+use Rattle.sm_history.specs.Verdict.{all_pass_to_client, event_checks}
 use Rattle.sm_history.proofs.AgreeNotices.{number_for_is}
 use Rattle.sm_history.proofs.Grants.{count_gives}
 use Rattle.sm_history.proofs.Sound.{sound_gives}
 use Rattle.sm_grants.specs.Several.{after_grants, numbers_for}
 use Rattle.sm_grants.specs.Handing.{AreNamed, others}
 use Rattle.sm_grants.proofs.Handing.{handed_are}
-use Rattle.sm_core.specs.declared.plan.Plan.{Plan}
+use Rattle.sm_core.specs.declared.draft.Draft.{Draft}
 use Rattle.sm_core.specs.Stands.{DeathIsLast}
-use Rattle.sm_core.specs.Judging.{AllPass, IsPlan, Judged, out_of_memory}
+use Rattle.sm_core.specs.Judging.{AllPass, IsDrafted, PassesWith, out_of_memory}
 use Rattle.sm_core.specs.Calling.{Sends, gives_of, sent, target_checks}
 use Rattle.sm_core.proofs.CallChecks.{call_passes}
 
@@ -115,7 +116,7 @@ last_delivers k [] rs c x = (λ e. refl, tt)
 last_delivers k (n ∷ ns) [] c x = (λ e. refl, tt)
 last_delivers k (n ∷ ns) (r ∷ rs) c x = (λ e. cc, last_delivers k ns rs c x)
 
--- ---- the plan
+-- ---- the draft
 
 sent_is : (d : Effects) (c handle : ℕ) (n : Node) (payload : List ℕ) (refs : List ObjRef) (named : List (Option Node))
     → node_at d c handle ≡ Some n → Sound d → is_live d n.owner.0 ≡ true → AreNamed d c refs named
@@ -125,20 +126,19 @@ sent_is d c handle n payload refs named at s live are =
     let with : List Given → Delivery = λ gs. record { object = n.object; what = Called who.pid who.uid payload gs } in
     rw at (ap with (sym (handed_are d c n.owner.0 refs named s live are).0))
 
-pub call_plan : (m : Moment) (d : Effects) (c handle : ℕ) (n : Node) (payload : List ℕ) (refs : List ObjRef)
-    (named : List (Option Node)) (plan : Plan) → node_at d c handle ≡ Some n → Sound d → is_live d n.owner.0 ≡ true
-    → AreNamed d c refs named → has_inbox_room d n.owner.0 ≡ true
-    → fits_handles (after_grants d n.owner.0 (others n.owner.0 named)) n.owner.0 ≡ true
-    → Sends d c n payload named plan → IsPlan m d c (Call handle payload refs) plan
-call_plan m d c handle n payload refs named plan at s live are room fits sends =
+pub call_drafted : (m : Moment) (d : Effects) (c handle : ℕ) (n : Node) (payload : List ℕ) (refs : List ObjRef)
+    (named : List (Option Node)) (old new : Draft) (outcome : Outcome) → node_at d c handle ≡ Some n → Sound d
+    → is_live d n.owner.0 ≡ true → AreNamed d c refs named → has_inbox_room d n.owner.0 ≡ true
+    → fits_handles (after_grants d n.owner.0 (others n.owner.0 named)) n.owner.0 ≡ true → old.told.items ≡ []
+    → Sends d c n payload named old new outcome → IsDrafted m d c (Call handle payload refs) new outcome
+call_drafted m d c handle n payload refs named old new outcome at s live are room fits none sends =
     let k = n.owner.0 in
     let ns = others k named in
     let x = sent d c n payload named in
     let is = sent_is d c handle n payload refs named at s live are in
     record {
-      records = sends.records;
       outcome = sends.outcome ∙ ap (λ (v : Delivery). Sent v) is;
-      reply_outcome = sends.reply_outcome;
+      told = ap (λ (v : Vec Record). v.items) sends.told ∙ none;
       effects = ap (followed d) sends.effects ∙ followed_gives d k ns (Delivers k x)
           ∙ ap (λ (e : Effects). Delivers k x ∷ e) (sym (handed_are d c k refs named s live are).1)
           ∙ ap (λ (v : Delivery). Delivers k v ∷ handed_refs d c k refs) is
@@ -150,21 +150,25 @@ call_plan m d c handle n payload refs named plan at s live are room fits sends =
       sound = tt;
     }
 
--- After all checks, a call is as it was planned, or an allocation failed.
-pub call_judged : (h : History) (old one new : List Record) (c handle : ℕ) (n : Node) (payload : List ℕ)
-    (refs : List ObjRef) (named : List (Option Node)) (result : Result Plan FailedCheck)
+-- After all checks, a call was drafted, or an allocation failed.
+pub call_judged : (h : History) (old one : List Record) (mid new : Draft) (c handle : ℕ) (n : Node) (payload : List ℕ)
+    (refs : List ObjRef) (named : List (Option Node)) (result : Result Outcome Reply)
     → let d = effects_of h in let m = moment_of h in AllPass m old one (target_checks d c (node_at d c handle))
     → node_at d c handle ≡ Some n → Sound d → is_live d n.owner.0 ≡ true → AreNamed d c refs named
-    → AllPass m one new (all_pass_to_client d c n.owner.0 refs)
+    → AllPass m one mid.records.items (all_pass_to_client d c n.owner.0 refs)
     → (has_inbox_room d n.owner.0 && fits_handles (after_grants d n.owner.0 (others n.owner.0 named)) n.owner.0) ≡ true
-    → MatchResult result (Sends d c n payload named) (λ s. s ≡ out_of_memory)
-    → Judged h old new c (Call handle payload refs) result
-call_judged h old one new c handle n payload refs named (Err s) target at sound live are pass room made = inl made
-call_judged h old one new c handle n payload refs named (Ok plan) target at sound live are pass room made =
+    → mid.told.items ≡ [] → MatchResult result (Sends d c n payload named mid new) (λ s. s ≡ out_of_memory)
+    → PassesWith m old new.records.items (event_checks d c (Call handle payload refs))
+    (IsDrafted m d c (Call handle payload refs) new) result
+call_judged h old one mid new c handle n payload refs named (Err s) target at sound live are pass room none made =
+    inl made
+call_judged h old one mid new c handle n payload refs named (Ok o) target at sound live are pass room none made =
     let d = effects_of h in
     let m = moment_of h in
     let k = n.owner.0 in
-    let both = and_parts (has_inbox_room d k) (fits_handles (after_grants d k (others k named)) k) room in (
-      call_passes m old one new d c handle n refs named target at sound live are pass room,
-      call_plan m d c handle n payload refs named plan at sound live are both.0 both.1 made,
+    let both = and_parts (has_inbox_room d k) (fits_handles (after_grants d k (others k named)) k) room in
+    let same = ap (λ (v : Vec Record). v.items) made.records in (
+      subst (λ (rs : List Record). AllPass m old rs (event_checks d c (Call handle payload refs))) (sym same)
+          (call_passes m old one mid.records.items d c handle n refs named target at sound live are pass room),
+      call_drafted m d c handle n payload refs named mid new o at sound live are both.0 both.1 none made,
     )

@@ -1,6 +1,6 @@
 -- A manager crosses to another thread.
 use denote.Param.Send as cross
-use denote.Param.Send.{IsSend, sendable, recorded_send, struct_send, enum_send}
+use denote.Param.Send.{IsSend, IsSync, sendable, recorded_send, recorded_sync, struct_send, enum_send}
 use denote.Struct.Field as Field
 use denote.Struct.Declared as struct
 use denote.Enum.Declared as enum
@@ -9,11 +9,20 @@ use Rattle.sm_kinds.proofs.identity.Identity.TheSendSync as Identity
 use Rattle.sm_kinds.proofs.name.Name.TheSendSync as Name
 use Rattle.sm_kinds.proofs.payload.Payload.TheSendSync as Payload
 use Rattle.sm_kinds.proofs.refs.Refs.TheSendSync as Refs
+use Rattle.sm_kinds.proofs.number.Node.TheSendSync as Node
 use Rattle.sm_kinds.proofs.number.ObjRef.TheSendSync as ObjRef
 use Rattle.sm_policy.proofs.Crossing.{prepared_send}
 use Rattle.sm_history.specs.contracts.by.By as By
 use Rattle.sm_history.specs.contracts.event.Event as Event
 use Rattle.sm_history.specs.contracts.entry.Entry as Entry
+use Rattle.sm_history.specs.contracts.effect.Effect as Effect
+use Rattle.sm_history.specs.contracts.records.Record as Record
+use Rattle.sm_history.proofs.records.Record.TheSendSync as RecordCrosses
+use Rattle.sm_history.specs.contracts.delivery.Delivery as Delivery
+use Rattle.sm_history.proofs.delivery.Delivery.TheSendSync as DeliveryCrosses
+use Rattle.sm_history.proofs.effect.WatchPair.TheSendSync as WatchPair
+use Rattle.sm_history.proofs.service.Service.TheSendSync as Service
+use Rattle.sm_history.proofs.shared.Shared.TheSendSync as SharedCrosses
 use Rattle.sm_history.proofs.outcome.Outcome.TheSendSync as Outcome
 use Rattle.sm_names.proofs.names.NameTable.TheSendSync as NameTable
 use Rattle.sm_grants.proofs.grants.Grants.TheSendSync as Grants
@@ -42,6 +51,9 @@ use Rattle.sm_history.specs.contracts.rows.Rows as Rows
 use Rattle.sm_history.specs.contracts.rows.Rows.TheInside as RowsInside
 use Rattle.sm_core.specs.contracts.principals.Principals as Principals
 use Rattle.sm_core.specs.contracts.state.State as State
+use Rattle.sm_core.specs.contracts.draft.Draft as Draft
+use Rattle.sm_core.specs.contracts.ledger.Ledger as Ledger
+use Rattle.sm_core.specs.contracts.ledger.Ledger.TheInside as LedgerInside
 use Rattle.sm_core.specs.contracts.manager.Manager as Manager
 use Rattle.sm_core.specs.contracts.manager.Manager.TheInside as ManagerInside
 use Rattle.sm_core.proofs.Crossing.{client_send, global_send, u32_send, u64_send}
@@ -165,9 +177,76 @@ state_send =
     struct_send (struct.shape State.the_type)
     (principals_send, (u64_send, (NameTable.the_field_send, (Grants.the_field_send, (Inboxes.the_field_send, tt)))))
 
+delivery_send : IsSend Delivery.the_row
+delivery_send = recorded_send _ _ _ Delivery.the_type.to_one DeliveryCrosses.the_field_send
+
+delivery_sync : IsSync Delivery.the_row
+delivery_sync = recorded_sync _ _ _ Delivery.the_type.to_one DeliveryCrosses.the_field_sync
+
+effect_send : IsSend Effect.the_row
+effect_send =
+    let name = Name.the_send in
+    let who = Identity.the_field_send in
+    let shared = SharedCrosses.the_send Delivery.the_row delivery_send delivery_sync in
+    recorded_send _ _ _ Effect.the_type.to_one
+    (enum_send (enum.shape Effect.the_type) (
+      (who, tt),
+      (
+        (prepared_send, tt),
+        (
+          (u32_send, (who, tt)),
+          (
+            (u32_send, tt),
+            (
+              (name, (Service.the_field_send, tt)),
+              (
+                (name, tt),
+                (
+                  (u32_send, (Node.the_field_send, (u32_send, tt))),
+                  (
+                    (u32_send, (Node.the_field_send, tt)),
+                    (
+                      (WatchPair.the_send, tt),
+                      (
+                        (WatchCrosses.the_field_send, tt),
+                        (
+                          (u32_send, (shared, tt)),
+                          (
+                            (u32_send, tt),
+                            ((u64_send, (u32_send, tt)), tt),
+                          ),
+                        ),
+                      ),
+                    ),
+                  ),
+                ),
+              ),
+            ),
+          ),
+        ),
+      ),
+    ))
+
+record_send : IsSend Record.the_row
+record_send = recorded_send _ _ _ Record.the_type.to_one RecordCrosses.the_field_send
+
+draft_send : IsSend Draft.the_field.row
+draft_send =
+    struct_send (struct.shape Draft.the_type) (
+      Vec-send Effect.the_row effect_send,
+      (Vec-send Record.the_row record_send, (Vec-send Record.the_row record_send, tt)),
+    )
+
+ledger_send : IsSend Ledger.the_row
+ledger_send =
+    cross.view_send LedgerInside.the_row _ _ _ _
+    (recorded_send _ _ _ LedgerInside.the_type.to_one
+    (struct_send (struct.shape LedgerInside.the_type)
+    (global_send, (u32_send, (journal_send, (Turns.the_field_send, (state_send, tt)))))))
+
 pub manager_send : IsSend Manager.the_row
 manager_send =
     cross.view_send ManagerInside.the_row _ _ _ _
     (recorded_send _ _ _ ManagerInside.the_type.to_one
     (struct_send (struct.shape ManagerInside.the_type)
-    (global_send, (u32_send, (journal_send, (Turns.the_field_send, (state_send, (Ring.the_send, tt))))))))
+    (global_send, (ledger_send, (draft_send, (Ring.the_send, tt))))))

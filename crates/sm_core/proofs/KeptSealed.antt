@@ -2,6 +2,7 @@
 use Rattle.std.proofs.Common.{◌≡◌, ℕ, ◌+◌, ◌≤◌, ◌==◌, false, List, [], ◌∷◌, refl, ap, sym, ◌∙◌, length, arith}
 use Rattle.std.specs.Prelude.{◌≢◌}
 use Rattle.std.proofs.lemmas.Bool.{true≢false}
+use Rattle.std.specs.List.{All}
 use Rattle.std.proofs.lemmas.List.Elements.{All-weaker}
 use Rattle.sm_history.specs.declared.by.By.{By}
 use Rattle.sm_history.specs.declared.entry.Entry.{Entry}
@@ -34,19 +35,18 @@ has_entry es n is more none =
     true≢false (sym (ap (λ (k : ℕ). k == 0) zero) ∙ more)
 
 -- A segment has a number below the greatest where it has a change.
-pub small_number : {ring : List Record} (places : ℕ) (h : History) (turns : Turns) (s : State)
-    → Kept places h turns s ring → h.entries ≢ [] → h.number + 1 ≤ GREATEST
+pub small_number : (places : ℕ) (h : History) (turns : Turns) (s : State) → Kept places h turns s → h.entries ≢ [] → h.number + 1 ≤ GREATEST
 small_number places h turns s k some =
     let one = some_entry h.entries some in
     let numbered = k.numbered in
     let length = small_length places h turns s k in
     omega (arith, one, numbered, length)
 
-pub kept_sealed : (places : ℕ) (h h' : History) (turns turns' : Turns) (s : State) (ring : List Record)
-    → Kept places h turns s ring → h.entries ≢ [] → h' ≡ sealed h
+pub kept_sealed : (places : ℕ) (h h' : History) (turns turns' : Turns) (s : State) → Kept places h turns s
+    → h.entries ≢ [] → h' ≡ sealed h
     → ((by : By) → change_count turns' by ≡ turn_of (sealed h) by) → counted_admins turns' ≡ admins_of (sealed h)
-    → Kept places h' turns' s ring
-kept_sealed places h h' turns turns' s ring k some is turns_are admins_are = rw is (record {
+    → Kept places h' turns' s
+kept_sealed places h h' turns turns' s k some is turns_are admins_are = rw is (record {
   lawful = sealed_lawful places h k.lawful;
   numbered =
       let before = k.numbered in
@@ -57,6 +57,11 @@ kept_sealed places h h' turns turns' s ring k some is turns_are admins_are = rw 
   turns_are = turns_are;
   admins_are = admins_are;
   stands = stands_sealed h s k.stands;
-  true_records = All-weaker (IsTrueOnce places h) (IsTrueOnce places (sealed h))
-      (λ r t. stays_true places (sealed h) h r (begins_sealed places h) t) ring k.true_records;
 })
+
+-- Records that were true of a history stay so over a seal.
+pub truth_sealed : (places : ℕ) (h : History) (ring : List Record) → All (IsTrueOnce places h) ring
+    → All (IsTrueOnce places (sealed h)) ring
+truth_sealed places h ring true_ =
+    All-weaker (IsTrueOnce places h) (IsTrueOnce places (sealed h))
+    (λ r t. stays_true places (sealed h) h r (begins_sealed places h) t) ring true_

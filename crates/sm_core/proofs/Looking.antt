@@ -1,74 +1,56 @@
 -- What a query is answered, and the records that it leaves.
-use Rattle.std.proofs.Common.{◌≡◌, ◌⊎◌, inl, inr, ℕ, Bool, false, ◌↔◌, List, [], Some, None, true, refl, sym, ap, ◌∙◌}
-use Rattle.std.specs.Prelude.{IsTrue}
+use Rattle.std.proofs.Common.{◌≡◌, inl, inr, ℕ, false, List, [], Some, None, Option, true, refl, sym, ap, ◌∙◌}
+use Rattle.std.specs.Prelude.{unwrap_or}
 use Rattle.std.proofs.lemmas.Bool.{true≢false}
 use Rattle.sm_history.specs.declared.by.By.{By}
 use Rattle.sm_history.specs.declared.event.Event.{Event}
 use Rattle.sm_history.specs.Verdict.{checks}
 use Rattle.sm_history.specs.declared.query.Query.{Query}
 use Rattle.sm_history.specs.declared.records.Record.{Record}
-use Rattle.sm_history.specs.declared.refusal.Failure.{Failure}
-use Rattle.sm_history.specs.declared.refusal.Failure.TheVariants.{NotYours, NotConnected}
-use Rattle.sm_history.specs.declared.refusal.Refusal.TheVariants.{Failed, Memory}
 use Rattle.sm_history.specs.declared.reply.Reply.{Reply}
-use Rattle.sm_history.specs.declared.reply.Reply.TheVariants.{Looked, Refused}
+use Rattle.sm_history.specs.declared.reply.Reply.TheVariants.{Looked}
 use Rattle.sm_history.specs.declared.reply.Answer.{Answer}
-use Rattle.sm_history.specs.declared.failed_check.EarlyAnswer.{EarlyAnswer}
-use Rattle.sm_history.specs.declared.failed_check.EarlyAnswer.TheVariants.{Refused as Refuses}
-use Rattle.sm_history.specs.declared.failed_check.FailedCheck.{FailedCheck}
-use Rattle.sm_history.specs.declared.failed_check.FailedCheck.TheVariants.{Unmet}
+use Rattle.sm_history.specs.FailedChecks.{FailedCheck}
 use Rattle.sm_history.specs.Books.{Book}
-use Rattle.sm_history.specs.Checks.{answer_of}
-use Rattle.sm_history.specs.Histories.{History}
-use Rattle.sm_history.specs.Queries.{checks_of_query, looked, query_verdict}
+use Rattle.sm_history.specs.Checks.{answer_of, first_failing}
+use Rattle.sm_history.specs.Clients.{policy_at}
+use Rattle.sm_history.specs.Histories.{History, effects_of}
+use Rattle.sm_history.specs.Queries.{checks_of_query, looked}
 use Rattle.sm_history.specs.Records.{moment_of, records, query_records}
 use Rattle.sm_history.specs.PossibleReplies.{takes_memory}
-use Rattle.sm_core.specs.Judging.{Halts, AllPass, after_checks, IsAskerStop, out_of_memory}
+use Rattle.sm_core.specs.Judging.{Halts, AllPass, IsAskerStop, out_of_memory}
 use Rattle.sm_core.specs.Managed.{is_out_of_memory, look_leaves}
 use Rattle.sm_history.specs.Promises.{Looks}
-use Rattle.sm_core.proofs.Stopping.{failing_is, left_is}
+use Rattle.sm_core.proofs.Stopping.{answers, failing_is, left_is}
 use Rattle.sm_core.proofs.Keeping.{stop_records}
 
--- The verdict where a check stopped.
-stopped_reply : (b : Book) (by : By) (q : Query) (new : List Record) (s : FailedCheck) (reply : Reply)
-    → after_checks (moment_of b.history) [] (checks_of_query b.history by q) ≡ (new, Some s) → reply ≡ answer_of s
-    → reply ≡ query_verdict b.history by q
-stopped_reply b by q new s reply e is = is ∙ sym (ap (looked b.history q)
-    (failing_is (moment_of b.history) [] new (checks_of_query b.history by q) (Some s) e))
+looked_by : (h : History) (q : Query) (o : Option FailedCheck) (r : Reply) → answers o ≡ Some r → r ≡ looked h q o
+looked_by h q None r e = cc
+looked_by h q (Some s) r e = sym (ap (λ (p : Option Reply). unwrap_or p (answer_of s)) e)
 
--- Where the query takes memory, that may have been what stopped it.
-look_wants : (b : Book) (by : By) (q : Query) (new : List Record) (s : FailedCheck) (reply : Reply)
-    → Halts (moment_of b.history) [] new (checks_of_query b.history by q) s
-    → (reply ≡ Refused Memory) ⊎ (reply ≡ answer_of s) → takes_memory q ≡ true → Looks b by q reply
-look_wants b by q new s reply halts (inl w) takes = inl (w, takes)
-look_wants b by q new s reply (inl w) (inr is) takes = inl (is ∙ ap answer_of w, takes)
-look_wants b by q new s reply (inr e) (inr is) takes = inr (stopped_reply b by q new s reply e is)
-
--- Otherwise only the asker's checks refuse it.
-look_asked : (b : Book) (by : By) (q : Query) (new : List Record) (s : FailedCheck) (reply : Reply) (f : Failure)
-    → Halts (moment_of b.history) [] new (checks_of_query b.history by q) s → s ≡ Unmet (Refuses (Failed f))
-    → reply ≡ answer_of s → Looks b by q reply
-look_asked b by q new s reply f (inl w) is answers = cc
-look_asked b by q new s reply f (inr e) is answers = inr (stopped_reply b by q new s reply e answers)
+-- A failed allocation isn't why an asker is refused.
+asker_stops : {A : Type 0} (r : Reply) → IsAskerStop r → r ≡ out_of_memory → A
+asker_stops r (inl is) w = cc
+asker_stops r (inr is) w = cc
 
 -- What `look` answers where the judgement stopped.
-pub look_stops : (b : Book) (by : By) (q : Query) (new : List Record) (s : FailedCheck) (reply : Reply)
-    → Halts (moment_of b.history) [] new (checks_of_query b.history by q) s
-    → (reply ≡ Refused Memory) ⊎ (reply ≡ answer_of s) → ((i : EarlyAnswer) → s ≡ Unmet i → reply ≡ answer_of s)
-    → (takes_memory q ≡ false → IsAskerStop s) → Looks b by q reply
-look_stops b by q new s reply halts answers unmet asker =
+pub look_stops : (b : Book) (by : By) (q : Query) (new : List Record) (reply : Reply)
+    → Halts (moment_of b.history) [] new (checks_of_query b.history by q) reply
+    → (takes_memory q ≡ false → IsAskerStop reply) → Looks b by q reply
+look_stops b by q new reply (inr e) asker =
+    let xs = checks_of_query b.history by q in
+    inr (looked_by b.history q (first_failing (policy_at (effects_of b.history)) xs) reply
+    (failing_is (moment_of b.history) [] new xs (Some reply) e))
+look_stops b by q new reply (inl w) asker =
     elim (takes_memory q) as (λ t. takes_memory q ≡ t → Looks b by q reply) [
-      | true ↦ λ takes. look_wants b by q new s reply halts answers takes
-      | false ↦ λ none. elim (asker none) [
-        | inl is ↦ look_asked b by q new s reply NotYours halts is (unmet (Refuses (Failed NotYours)) is)
-        | inr is ↦ look_asked b by q new s reply NotConnected halts is (unmet (Refuses (Failed NotConnected)) is)
-      ]
+      | true ↦ λ takes. inl (w, takes)
+      | false ↦ λ none. asker_stops reply (asker none) w
     ] refl
 
 -- The records of a query.
-pub query_left : (h : History) (by : By) (q : Query) (new : List Record) (s : FailedCheck)
-    → Halts (moment_of h) [] new (checks_of_query h by q) s → (s ≡ out_of_memory → ⊥) → new ≡ query_records h by q
-query_left h by q new s (inl w) other = absurd (other w)
+pub query_left : (h : History) (by : By) (q : Query) (new : List Record) (s : Reply)
+    → Halts (moment_of h) [] new (checks_of_query h by q) s → is_out_of_memory s ≡ false → new ≡ query_records h by q
+query_left h by q new s (inl w) other = absurd (true≢false (sym (ap is_out_of_memory w) ∙ other))
 query_left h by q new s (inr e) other = sym (left_is (moment_of h) [] new (checks_of_query h by q) (Some s) e)
 
 pub query_passed : (h : History) (by : By) (q : Query) (new : List Record)
@@ -76,31 +58,17 @@ pub query_passed : (h : History) (by : By) (q : Query) (new : List Record)
 query_passed h by q new e = sym (left_is (moment_of h) [] new (checks_of_query h by q) None e)
 
 -- These are the records of an event that was refused, unless by a failed allocation.
-pub event_left : (places : ℕ) (h : History) (by : By) (turn : ℕ) (event : Event) (new : List Record) (s : FailedCheck)
-    → Halts (moment_of h) [] new (checks places h by turn event) s → (s ≡ out_of_memory → ⊥)
+pub event_left : (places : ℕ) (h : History) (by : By) (turn : ℕ) (event : Event) (new : List Record) (s : Reply)
+    → Halts (moment_of h) [] new (checks places h by turn event) s → is_out_of_memory s ≡ false
     → new ≡ records places h by turn event
-event_left places h by turn event new s (inl w) other = absurd (other w)
+event_left places h by turn event new s (inl w) other = absurd (true≢false (sym (ap is_out_of_memory w) ∙ other))
 event_left places h by turn event new s (inr e) other = stop_records places h by turn event new s e
 
--- A failed check that isn't reported as a failed allocation is none.
-pub not_out_of_memory : (b : Bool) (s : FailedCheck) → (IsTrue b ↔ (s ≡ out_of_memory))
-    → b ≡ false → s ≡ out_of_memory → ⊥
-not_out_of_memory b s both isnt w = true≢false (sym (both.1 w) ∙ isnt)
-
--- A reply other than `Memory` doesn't come from a failed allocation.
-other_stop : (s : FailedCheck) (reply : Reply) → (reply ≡ Refused Memory) ⊎ (reply ≡ answer_of s)
-    → is_out_of_memory reply ≡ false
-    → s ≡ out_of_memory → ⊥
-other_stop s reply (inl is) other w = true≢false (sym (ap is_out_of_memory is) ∙ other)
-other_stop s reply (inr is) other w = true≢false (sym (ap is_out_of_memory (is ∙ ap answer_of w)) ∙ other)
-
 -- The records that are given with the answer to a query.
-pub stop_leaves : (b : Book) (by : By) (q : Query) (new : List Record) (s : FailedCheck) (reply : Reply)
-    → Halts (moment_of b.history) [] new (checks_of_query b.history by q) s
-    → (reply ≡ Refused Memory) ⊎ (reply ≡ answer_of s) → is_out_of_memory reply ≡ false
-    → new ≡ look_leaves b by q reply
-stop_leaves b by q new s reply halts is other =
-    rw other (query_left b.history by q new s halts (other_stop s reply is other))
+pub stop_leaves : (b : Book) (by : By) (q : Query) (new : List Record) (s : Reply)
+    → Halts (moment_of b.history) [] new (checks_of_query b.history by q) s → is_out_of_memory s ≡ false
+    → new ≡ look_leaves b by q s
+stop_leaves b by q new s halts other = rw other (query_left b.history by q new s halts other)
 
 pub found_leaves : (b : Book) (by : By) (q : Query) (v l : ℕ) (a : Answer) (new : List Record) (reply : Reply)
     → new ≡ query_records b.history by q → reply ≡ Looked v l a → new ≡ look_leaves b by q reply

@@ -2,6 +2,7 @@
 use Rattle.std.proofs.Common.{◌≡◌, ℕ, ◌-◌, inl, inr, Bool, true, false, ◌&&◌, ◌||◌, ◌==◌}
 use Rattle.std.proofs.Common.{List, [], ◌∷◌, ◌++◌, refl, ap, sym, ◌∙◌, subst, length, Option}
 use Rattle.std.proofs.Common.{Some, None, if◌then◌else◌, cond, arith, append-nil, length-append}
+use Rattle.std.specs.Global.{Vec}
 use Rattle.std.specs.Prelude.{nat_lt, nat_eq, unwrap_or}
 use Rattle.std.specs.List.{list_any}
 use Rattle.std.proofs.lemmas.Bool.Decides.{nat_tests}
@@ -14,8 +15,8 @@ use Rattle.sm_policy.specs.Policy.{Policy, label_of}
 use Rattle.sm_history.specs.declared.delivery.Delivery.{Delivery}
 use Rattle.sm_history.specs.declared.delivery.Given.{Given}
 use Rattle.sm_history.specs.declared.delivery.Given.TheVariants.{Handle, Own}
-use Rattle.sm_history.specs.declared.failed_check.FailedCheck.{FailedCheck}
-use Rattle.sm_history.specs.declared.failed_check.EarlyAnswer.TheVariants.{Refused}
+use Rattle.sm_history.specs.FailedChecks.{FailedCheck}
+use Rattle.sm_history.specs.EarlyAnswers.{Refused}
 use Rattle.sm_history.specs.declared.refusal.Refusal.TheVariants.{Failed}
 use Rattle.sm_history.specs.declared.refusal.Failure.TheVariants.{TargetFull}
 use Rattle.sm_history.specs.declared.notice.Reason.{Reason}
@@ -28,20 +29,22 @@ use Rattle.sm_history.specs.declared.effect.Watch.{Watch}
 use Rattle.sm_history.specs.Clients.{policy_at, is_live}
 use Rattle.sm_history.specs.Holdings.{number_for, handed, fits_handles, given_to}
 use Rattle.sm_history.specs.Inboxes.{inbox_at, has_inbox_room}
-use Rattle.sm_history.specs.Checks.{Check, Needs, Wants, holds, failed_check_of, first_failing, from_manager}
+use Rattle.sm_history.specs.declared.reply.Reply.{Reply}
+use Rattle.sm_history.specs.Checks.{Check, Needs, Wants, answer_of, holds, failed_check_of, first_failing, from_manager}
 use Rattle.sm_history.specs.Checks.{to_label, finding, calling, transferring}
 use Rattle.sm_history.specs.Following.{followed, MayAllApart}
 use Rattle.sm_history.specs.Notices.{notice_checks, first_missing, told_of, reason_of, registration, after_told}
 use Rattle.sm_history.specs.Sound.{IsTakenFrom}
 use Rattle.sm_history.proofs.AfterInboxes.{inbox_delivers}
 use Rattle.sm_history.proofs.AgreeNotices.{both, cons_alike, wants_alike}
-use Rattle.sm_core.specs.declared.notifications.Notifications.{Notifications}
+use Rattle.sm_core.specs.declared.draft.Draft.{Draft}
+use Rattle.sm_core.specs.declared.inbox_rooms.InboxRooms.{InboxRooms}
 use Rattle.sm_core.specs.Stands.{is_death}
-use Rattle.sm_core.specs.Judging.{Halts, AllPass, out_of_memory}
+use Rattle.sm_core.specs.Judging.{Halts, AllPass, out_of_memory, reason_by}
 use Rattle.sm_history.specs.declared.records.Record.{Record}
 use Rattle.sm_history.specs.Records.{moment_of, left_by_all}
 use Rattle.sm_history.specs.Histories.{History, effects_of}
-use Rattle.sm_core.proofs.Stopping.{asked_is}
+use Rattle.sm_core.proofs.Stopping.{answers, asked_is}
 use Rattle.sm_core.specs.Notifications.{told_checks, gives_of, told_to, free_at, AsBefore}
 use Rattle.sm_core.specs.Notifications.{MayTell, left_in, left_at, AreNotifications, GoesOn}
 use Rattle.sm_core.proofs.AsBefore.{before_gives, before_delivers}
@@ -194,19 +197,56 @@ free_other : (f : Effects) (c : ℕ) (x : Delivery) (k : ℕ) → IsTakenFrom f 
 free_other f c x k taken other =
     ap (λ (xs : List Delivery). MOST_DELIVERIES - length xs) (inbox_delivers f c x k taken ∙ rw other refl)
 
+-- ---- why a watcher isn't notified
+
+no_answer : (o : Option FailedCheck) → answers o ≡ None → o ≡ None
+no_answer None e = refl
+no_answer (Some s) e = cc
+
+-- A failed check has this reason, by its answer.
+abbrev HasReason : FailedCheck → Type 0
+HasReason f = reason_by (answer_of f) ≡ reason_of f
+
+reason_first : (p : Policy) (x : Check) (xs : List Check) (f : FailedCheck) → HasReason (failed_check_of x)
+    → ((g : FailedCheck) → first_failing p xs ≡ Some g → HasReason g) → first_failing p (x ∷ xs) ≡ Some f → HasReason f
+reason_first p x xs f first rest e =
+    elim (holds p x) as (λ b. (let o : Option FailedCheck =
+    if b then first_failing p xs else Some (failed_check_of x) in o) ≡ Some f → HasReason f) [
+      | true ↦ λ h. rest f h
+      | false ↦ λ h. subst HasReason (ap (λ (o : Option FailedCheck). unwrap_or o f) h) first
+    ] e
+
+none_fails : {A : Type 0} (f : FailedCheck) → (let o : Option FailedCheck = None in o) ≡ Some f → A
+none_fails f e = cc
+
+reason_told : (p : Policy) (d : Effects) (n : Node) (w : Watch) (left : ℕ) (f : FailedCheck)
+    → first_failing p (told_checks d n w left) ≡ Some f → HasReason f
+reason_told p d n w left f =
+    let room = Wants (nat_lt 0 left && fits_handles (handed d w.client n) w.client) (Refused (Failed TargetFull)) in
+    reason_first p (to_label d w.client w.name finding)
+    (from_manager d w.client calling ∷ from_manager d w.client transferring ∷ room ∷ []) f refl
+    (λ a. reason_first p (from_manager d w.client calling) (from_manager d w.client transferring ∷ room ∷ []) a refl
+    (λ b. reason_first p (from_manager d w.client transferring) (room ∷ []) b refl
+    (λ c. reason_first p room [] c refl (λ g e. none_fails g e))))
+
+why : (o : Option FailedCheck) (s : Reply) → answers o ≡ Some s
+    → (f : FailedCheck) × (o ≡ Some f) × (answer_of f ≡ s)
+why None s e = cc
+why (Some f) s e = (f, refl, ap (λ (p : Option Reply). unwrap_or p (answer_of f)) e)
+
 -- ---- one watcher
 
 -- A watcher is notified if the checks hold.
-pub tells : (h : History) (n : Node) (w : Watch) (old new : Notifications) (mid : List Record) (left : ℕ) (g : Given)
-    (x : Delivery) → let d = effects_of h in AreNotifications d n old → is_live d w.client ≡ true
-    → left ≡ left_at d old w.client
-    → AllPass (moment_of h) old.records mid (told_checks d n w left) → new.records ≡ mid
-    → g ≡ given_to d w.client n → x ≡ told_to w g
+pub tells : (h : History) (n : Node) (w : Watch) (old new : Draft) (rooms rooms' : InboxRooms) (mid : List Record)
+    (left : ℕ) (g : Given) (x : Delivery) → let d = effects_of h in AreNotifications d n old rooms
+    → is_live d w.client ≡ true → left ≡ left_at d rooms w.client
+    → AllPass (moment_of h) old.told.items mid (told_checks d n w left) → new.told.items ≡ mid
+    → new.records ≡ old.records → g ≡ given_to d w.client n → x ≡ told_to w g
     → new.effects.items ≡ (old.effects.items ++ gives_of w.client n g) ++ Delivers w.client x ∷ []
-    → ((k : ℕ) → left_in new k ≡ cond (nat_eq w.client k) (Some (left - 1)) (left_in old k))
+    → ((k : ℕ) → left_in rooms' k ≡ cond (nat_eq w.client k) (Some (left - 1)) (left_in rooms k))
     → (IsTold x ≡ told_of (followed d old.effects.items) n w (first_missing (followed d old.effects.items) n w))
-    × GoesOn (moment_of h) d n w old new
-tells h n w old new mid left g x t live is asks noted given told items counts =
+    × GoesOn (moment_of h) d n w old new rooms'
+tells h n w old new rooms rooms' mid left g x t live is asks noted kept given told items counts =
     let d = effects_of h in
     let m = moment_of h in
     let c = w.client in
@@ -215,9 +255,9 @@ tells h n w old new mid left g x t live is asks noted given told items counts =
     let p = policy_at d in
     let before = t.may.before in
     let free : left ≡ free_at e c = is ∙ t.left c live in
-    let found = sym (asked_is m old.records (told_checks d n w left)) ∙ asks in
+    let found = sym (asked_is m old.told.items (told_checks d n w left)) ∙ asks in
     let pass : first_failing p (told_checks d n w left) ≡ None =
-    ap (λ (q : List Record × Option FailedCheck). q.1) found in
+    no_answer (first_failing p (told_checks d n w left)) (ap (λ (q : List Record × Option Reply). q.1) found) in
     let missing : first_missing e n w ≡ None = sym (missing_same d e n w left before live free) ∙ pass in
     let last = (passed p (Wants (nat_lt 0 left && fits_handles (handed d c n) c) (Refused (Failed TargetFull))) []
     (passed p (from_manager d c transferring)
@@ -246,13 +286,14 @@ tells h n w old new mid left g x t live is asks noted given told items counts =
     let taken = handing.may.before.sound.taken in (
       ap (λ (v : Delivery). IsTold v) said ∙ ap (told_of e n w) (sym missing),
       record {
-        records = noted ∙ sym (ap (λ (q : List Record × Option FailedCheck). q.0) found)
-            ∙ ap (λ (xs : List Check). old.records ++ left_by_all m xs) (checks_same d e n w left before live free);
+        told = noted ∙ sym (ap (λ (q : List Record × Option Reply). q.0) found)
+            ∙ ap (λ (xs : List Check). old.told.items ++ left_by_all m xs) (checks_same d e n w left before live free);
+        records = kept;
         notifications = record {
           may = subst (λ (v : List Effect). MayTell d n v) (sym items) (delivered_may d n ys c x handing.may live room);
           left = λ k l.
               ap (λ (o : Option ℕ). unwrap_or o (free_at d k)) (counts k)
-              ∙ left_case (nat_eq c k) left (left_in old k) (free_at d k) (free_at (Delivers c x ∷ f) k)
+              ∙ left_case (nat_eq c k) left (left_in rooms k) (free_at d k) (free_at (Delivers c x ∷ f) k)
               (λ s.
               let same : c ≡ k = grind (arith, nat_tests) in
               subst (λ (v : ℕ). left - 1 ≡ free_at (Delivers c x ∷ f) v) same
@@ -268,35 +309,35 @@ tells h n w old new mid left g x t live is asks noted given told items counts =
     )
 
 -- A watcher isn't notified if a check fails.
-pub tells_not : (h : History) (n : Node) (w : Watch) (old new : Notifications) (left : ℕ) (s : FailedCheck) (r : Reason)
-    → let d = effects_of h in new.effects ≡ old.effects → new.left ≡ old.left → AreNotifications d n old
-    → is_live d w.client ≡ true → left ≡ left_at d old w.client
-    → Halts (moment_of h) old.records new.records (told_checks d n w left) s → (s ≡ out_of_memory → ⊥) → r ≡ reason_of s
+pub tells_not : (h : History) (n : Node) (w : Watch) (old new : Draft) (rooms : InboxRooms) (left : ℕ) (s : Reply)
+    (r : Reason) → let d = effects_of h in new.effects ≡ old.effects → new.records ≡ old.records
+    → AreNotifications d n old rooms → is_live d w.client ≡ true → left ≡ left_at d rooms w.client
+    → Halts (moment_of h) old.told.items new.told.items (told_checks d n w left) s → (s ≡ out_of_memory → ⊥)
+    → r ≡ reason_by s
     → (NotTold r ≡ told_of (followed d old.effects.items) n w (first_missing (followed d old.effects.items) n w))
-    × GoesOn (moment_of h) d n w old new
-tells_not h n w old new left s r same_effects same_left t live is (inl memory) other why = absurd (other memory)
-tells_not h n w old new left s r same_effects same_left t live is (inr asks) other why =
+    × GoesOn (moment_of h) d n w old new rooms
+tells_not h n w old new rooms left s r same kept t live is (inl memory) other reasons = absurd (other memory)
+tells_not h n w old new rooms left s r same kept t live is (inr asks) other reasons =
     let d = effects_of h in
     let m = moment_of h in
     let e = followed d old.effects.items in
     let free = is ∙ t.left w.client live in
-    let found = sym (asked_is m old.records (told_checks d n w left)) ∙ asks in
-    let stops = ap (λ (q : List Record × Option FailedCheck). q.1) found in
-    let missing : first_missing e n w ≡ Some s =
-    sym (missing_same d e n w left t.may.before live (is ∙ t.left w.client live)) ∙ stops in (
-      ap (λ (v : Reason). NotTold v) why ∙ ap (told_of e n w) (sym missing),
+    let checks = told_checks d n w left in
+    let found = sym (asked_is m old.told.items checks) ∙ asks in
+    let it = why (first_failing (policy_at d) checks) s (ap (λ (q : List Record × Option Reply). q.1) found) in
+    let missing : first_missing e n w ≡ Some it.0 = sym (missing_same d e n w left t.may.before live free) ∙ it.1 in
+    let reason : r ≡ reason_of it.0 =
+    reasons ∙ ap reason_by (sym it.2) ∙ reason_told (policy_at d) d n w left it.0 it.1 in (
+      ap (λ (v : Reason). NotTold v) reason ∙ ap (told_of e n w) (sym missing),
       record {
-        records = sym (ap (λ (q : List Record × Option FailedCheck). q.0) found)
-            ∙ ap (λ (xs : List Check). old.records ++ left_by_all m xs)
+        told = sym (ap (λ (q : List Record × Option Reply). q.0) found)
+            ∙ ap (λ (xs : List Check). old.told.items ++ left_by_all m xs)
             (checks_same d e n w left t.may.before live free);
+        records = kept;
         notifications = record {
-          may = subst (λ (v : _). MayTell d n v.items) (sym same_effects) t.may;
-          left = λ k l. ap (λ (v : _). left_at d (record { effects = v; left = new.left; records = new.records }) k)
-              same_effects
-              ∙ ap (λ (v : _). left_at d (record { effects = old.effects; left = v; records = new.records }) k)
-              same_left
-              ∙ t.left k l ∙ ap (λ (v : _). free_at (followed d v.items) k) (sym same_effects);
+          may = subst (λ (v : Vec Effect). MayTell d n v.items) (sym same) t.may;
+          left = λ k l. t.left k l ∙ ap (λ (v : Vec Effect). free_at (followed d v.items) k) (sym same);
         };
-        after = ap (λ (v : _). followed d v.items) same_effects ∙ ap (after_told e n w) (sym missing);
+        after = ap (λ (v : Vec Effect). followed d v.items) same ∙ ap (after_told e n w) (sym missing);
       },
     )

@@ -19,7 +19,7 @@ use Rattle.sm_core.specs.declared.state.State.{State}
 use Rattle.sm_grants.specs.Rows.{spare_for}
 use Rattle.sm_names.specs.declared.names.NameTable.{NameTable}
 use Rattle.sm_names.specs.Tracking.{HasRoom as HasNameRoom}
-use Rattle.sm_core.specs.Stands.{gives_to, HasRoom}
+use Rattle.sm_core.specs.Stands.{gives_to, is_connect, is_named, HasRoom}
 use Rattle.sm_core.proofs.Numbers.{sets_first, connects_first}
 
 pub number_same : (a b : ℕ) → (a == b) ≡ true → a ≡ b
@@ -123,8 +123,9 @@ fewer_names n m t le r = record {
 pub room_one : (x : Effect) (rest : List Effect) (s : State) → HasRoom (x ∷ rest) s → HasRoom (x ∷ []) s
 room_one x rest s r =
     record {
-      clients = let a = r.clients in omega (arith, a);
-      names = fewer_names (length (x ∷ rest)) 1 s.names (omega arith) r.names;
+      clients = λ any. let a = r.clients (first_of is_connect x rest any) in omega (arith, a);
+      names = λ any. fewer_names (length (x ∷ rest)) 1 s.names (omega arith)
+          (r.names (first_of is_named x rest any));
       version = let a = r.version in let b = sets_first x rest in omega (arith, a, b);
       next = let a = r.next in let b = connects_first x rest in omega (arith, a, b);
       handles = λ c any. let a = r.handles c (first_of (gives_to c) x rest any) in omega (arith, a);
@@ -136,8 +137,9 @@ pub room_left : (x : Effect) (rest : List Effect) (s : State) (t : NameTable)
     → (HasNameRoom (length rest + 1) s.names → HasNameRoom (length rest) t) → HasRoom (x ∷ rest) s
     → HasRoom rest (record s { names = t })
 room_left x rest s t left r = record {
-  clients = let a = r.clients in omega (arith, a);
-  names = left (fewer_names (length (x ∷ rest)) (length rest + 1) s.names (omega arith) r.names);
+  clients = λ any. let a = r.clients (later is_connect x rest any) in omega (arith, a);
+  names = λ any. left (fewer_names (length (x ∷ rest)) (length rest + 1) s.names (omega arith)
+      (r.names (later is_named x rest any)));
   version = let a = r.version in let b = sets_first x rest in omega (arith, a, b);
   next = let a = r.next in let b = connects_first x rest in omega (arith, a, b);
   handles = spare_kept x rest (spare_for s.grants) (spare_for s.grants) (λ k. omega arith) r.handles;

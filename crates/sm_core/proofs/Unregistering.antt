@@ -8,7 +8,7 @@ use Rattle.sm_history.specs.Records.{Moment}
 use Rattle.sm_history.specs.declared.records.Record.{Record}
 use Rattle.sm_history.specs.declared.event.Event.TheVariants.{Unregister}
 use Rattle.sm_history.specs.declared.effect.Effect.TheVariants.{Removes}
-use Rattle.sm_history.specs.declared.failed_check.EarlyAnswer.TheVariants.{Refused}
+use Rattle.sm_history.specs.EarlyAnswers.{Refused}
 use Rattle.sm_history.specs.declared.refusal.Refusal.TheVariants.{Failed, Exception}
 use Rattle.sm_history.specs.declared.refusal.Failure.TheVariants.{BadHandle}
 use Rattle.sm_history.specs.declared.refusal.Exception.TheVariants.{NullBinder, NotRegistered, NotAdder}
@@ -20,10 +20,10 @@ use Rattle.sm_history.specs.Holdings.{resolve_at, node_at, is_in_use}
 use Rattle.sm_history.specs.Histories.{found}
 use Rattle.sm_history.specs.Services.{service_at}
 use Rattle.sm_history.specs.Verdict.{passes_to_manager, is_null, service_meets}
-use Rattle.sm_core.specs.declared.plan.Plan.{Plan}
-use Rattle.sm_core.specs.Judging.{AllPass, IsPlan, removal_checks}
+use Rattle.sm_core.specs.declared.draft.Draft.{Draft}
+use Rattle.sm_core.specs.Judging.{AllPass, IsDrafted, removal_checks}
 use Rattle.sm_core.proofs.Adding.{passed_some}
-use Rattle.sm_core.proofs.Planning.{one_plan}
+use Rattle.sm_core.proofs.Drafting.{one_effect}
 
 -- These are the checks of an Unregister behind those of its reference.
 abbrev pub removing : Effects → ℕ → List ℕ → ObjRef → List Check
@@ -47,9 +47,9 @@ removing_is m old new d c name (HandleRef r) object pass is =
     refl
 removing_is m old new d c name obj object pass is = ap (removal_checks d c name) is
 
-pub removal_plan : (m : Moment) (d : Effects) (c : ℕ) (name copy : List ℕ) (obj : ObjRef) (plan : Plan)
-    → plan.records ≡ [] → copy ≡ name → plan.effects ≡ Removes copy ∷ [] → plan.outcome ≡ Unregistered
-    → plan.reply_outcome ≡ plan.outcome → IsPlan m d c (Unregister name obj) plan
-removal_plan m d c name copy obj plan none same items outcome reply_outcome =
-    one_plan m d c (Unregister name obj) plan (Removes copy) none items (ap (λ (v : List ℕ). Removes v ∷ d) same) tt
-    outcome reply_outcome tt
+pub removal_drafted : (m : Moment) (d : Effects) (c : ℕ) (name copy : List ℕ) (obj : ObjRef) (draft : Draft)
+    → copy ≡ name → draft.told.items ≡ [] → draft.effects.items ≡ Removes copy ∷ []
+    → IsDrafted m d c (Unregister name obj) draft Unregistered
+removal_drafted m d c name copy obj draft same none items =
+    one_effect m d c (Unregister name obj) draft Unregistered (Removes copy) none items
+    (ap (λ (v : List ℕ). Removes v ∷ d) same) tt refl tt

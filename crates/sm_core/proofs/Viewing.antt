@@ -22,7 +22,7 @@ use Rattle.sm_history.proofs.NumbersFit.{numbers_fit, sealed_lawful, sealed_fits
 use Rattle.sm_history.proofs.RowsSound.{sim_rows}
 use Rattle.sm_history.proofs.LawfulLaws.{turn_more, turn_same}
 use Rattle.sm_names.specs.declared.services.Services.{Services}
-use Rattle.sm_core.specs.declared.ready.Ready.{Ready}
+use Rattle.sm_history.specs.declared.entry.Entry.{Entry}
 use Rattle.sm_core.specs.declared.state.State.{State}
 use Rattle.sm_core.specs.declared.turns.Turns.{Turns}
 use Rattle.sm_core.specs.declared.view_tables.ViewTables.{ViewTables}
@@ -120,7 +120,7 @@ gone P d xs left is g = subst P (ap (followed g.0) (sym is) ∙ g.4) g.2
 
 -- The parts of a view of what there is now.
 pub viewed_now : (places : ℕ) (h : History) (turns : Turns) (s : State) (len : ℕ) (tables : ViewTables)
-    (newest : TurnRow) → Kept places h turns s [] → len ≡ length_of h
+    (newest : TurnRow) → Kept places h turns s → len ≡ length_of h
     → ((d : Effects) → StandPrincipals d s.principals → StandPrincipals d (arc_value tables.principals))
     → ((d : Effects) → TracksNames d s.names → TracksRows d (arc_value tables.services).rows.items)
     → ((b : By) → counted_with newest tables.turn_counts b ≡ change_count turns b)
@@ -140,17 +140,16 @@ abbrev pub changes_with : Turns → By → By → ℕ
 changes_with turns by b = if is_same b by then change_count turns b + 1 else change_count turns b
 
 -- The parts of a view of what there is once an event is committed.
-pub viewed_more : (places : ℕ) (h : History) (turns : Turns) (r : Ready) (len : ℕ) (tables tables' : ViewTables)
-    (newest newest' : TurnRow) → ((b : By) → change_count turns b ≡ turn_of h b) → IsComing places h r
+pub viewed_more : (places : ℕ) (h : History) (turns : Turns) (e : Entry) (xs : List Effect) (len : ℕ) (tables tables' : ViewTables)
+    (newest newest' : TurnRow) → ((b : By) → change_count turns b ≡ turn_of h b) → IsComing places h e xs
     → Viewed places h len tables newest
-    → ((d : Effects) → Sound d → StandPrincipals d (arc_value tables.principals) → MayAllApart d r.effects
-    → StandPrincipals (followed d r.effects) (arc_value tables'.principals))
-    → ((d : Effects) → Sound d → TracksRows d (arc_value tables.services).rows.items → MayAllApart d r.effects
-    → TracksRows (followed d r.effects) (arc_value tables'.services).rows.items)
-    → ((b : By) → counted_with newest' tables'.turn_counts b ≡ changes_with turns r.entry.by b)
-    → Viewed places (entered r.entry h) (len + 1) tables' newest'
-viewed_more places h turns r len tables tables' newest newest' turns_are coming v asks named counts =
-    let e = r.entry in
+    → ((d : Effects) → Sound d → StandPrincipals d (arc_value tables.principals) → MayAllApart d xs
+    → StandPrincipals (followed d xs) (arc_value tables'.principals))
+    → ((d : Effects) → Sound d → TracksRows d (arc_value tables.services).rows.items → MayAllApart d xs
+    → TracksRows (followed d xs) (arc_value tables'.services).rows.items)
+    → ((b : By) → counted_with newest' tables'.turn_counts b ≡ changes_with turns e.by b)
+    → Viewed places (entered e h) (len + 1) tables' newest'
+viewed_more places h turns e xs len tables tables' newest newest' turns_are coming v asks named counts =
     let d = effects_of h in
     let sound = sound_lawful places h v.lawful in record {
       lawful = inr (v.lawful, (coming.done, coming.sound));
@@ -208,10 +207,10 @@ viewed_turns places h len tables newest by v =
     omega (arith, few, small)
 
 -- The version of a view and the policies that an event sets are below the greatest number.
-pub viewed_version : (places : ℕ) (h : History) (len : ℕ) (tables : ViewTables) (newest : TurnRow) (r : Ready)
-    → Viewed places h len tables newest → IsComing places h r
-    → (arc_value tables.principals).version + sets_in r.effects < GREATEST
-viewed_version places h len tables newest r v coming =
+pub viewed_version : (places : ℕ) (h : History) (len : ℕ) (tables : ViewTables) (newest : TurnRow) (e : Entry)
+    (xs : List Effect) → Viewed places h len tables newest → IsComing places h e xs
+    → (arc_value tables.principals).version + sets_in xs < GREATEST
+viewed_version places h len tables newest e xs v coming =
     let is = v.asks.version in
     let small = coming.numbers in
     omega (arith, is, small)

@@ -4,10 +4,10 @@ use Rattle.sm_kinds.specs.declared.number.Node.{Node}
 use Rattle.sm_history.specs.declared.delivery.Delivery.{Delivery}
 use Rattle.sm_history.specs.declared.delivery.Message.TheVariants.{Called}
 use Rattle.sm_history.specs.declared.effect.Effect.{Effect, TheVariants.Gives, TheVariants.Delivers}
-use Rattle.sm_history.specs.declared.outcome.Outcome.TheVariants.{Sent}
+use Rattle.sm_history.specs.declared.outcome.Outcome.{Outcome, TheVariants.Sent}
 use Rattle.sm_history.specs.declared.refusal.Refusal.TheVariants.{Failed, Dead}
 use Rattle.sm_history.specs.declared.refusal.Failure.TheVariants.{BadHandle, TargetFull}
-use Rattle.sm_history.specs.declared.failed_check.EarlyAnswer.TheVariants.{Refused}
+use Rattle.sm_history.specs.EarlyAnswers.{Refused}
 use Rattle.sm_history.specs.Effects.{Effects}
 use Rattle.sm_history.specs.Clients.{identity_at}
 use Rattle.sm_history.specs.Checks.{Check, Wants, to_client, calling, transferring}
@@ -17,7 +17,7 @@ use Rattle.sm_history.specs.Inboxes.{has_inbox_room}
 use Rattle.sm_history.specs.Verdict.{owner_lives}
 use Rattle.sm_grants.specs.Several.{after_grants, numbers_for}
 use Rattle.sm_grants.specs.Handing.{others, given_as}
-use Rattle.sm_core.specs.declared.plan.Plan.{Plan}
+use Rattle.sm_core.specs.declared.draft.Draft.{Draft}
 
 -- These are the checks of a call up to its references, by the object of the handle.
 abbrev pub target_checks : Effects → ℕ → Option Node → List Check
@@ -51,12 +51,12 @@ sent d c n payload named =
     let refs = given_as k named (numbers_for d k (others k named)) in
     record { object = n.object; what = Called who.pid who.uid payload refs }
 
--- This is a call's plan, by the objects that its references name.
-pub record Sends (d : Effects) (c : ℕ) (n : Node) (payload : List ℕ) (named : List (Option Node)) (plan : Plan)
-    : Type 0 where
-  pub records : plan.records ≡ []
-  pub outcome : plan.outcome ≡ Sent (sent d c n payload named)
-  pub reply_outcome : plan.reply_outcome ≡ plan.outcome
-  pub effects : plan.effects
+-- This is what a call drafts, and its outcome, by the objects that its references name.
+pub record Sends (d : Effects) (c : ℕ) (n : Node) (payload : List ℕ) (named : List (Option Node)) (old new : Draft)
+    (made : Outcome) : Type 0 where
+  pub told : new.told ≡ old.told
+  pub records : new.records ≡ old.records
+  pub outcome : made ≡ Sent (sent d c n payload named)
+  pub effects : new.effects.items
       ≡ gives_of n.owner.0 (others n.owner.0 named) (numbers_for d n.owner.0 (others n.owner.0 named))
       ++ Delivers n.owner.0 (sent d c n payload named) ∷ []

@@ -1,7 +1,7 @@
 -- A get, judged part by part.
 use Rattle.std.specs.Prelude.{ℕ, List, [], ◌∷◌, Option, is_some, not}
 use Rattle.sm_history.specs.declared.service.Service.{Service}
-use Rattle.sm_history.specs.declared.failed_check.EarlyAnswer.TheVariants.{GotNull}
+use Rattle.sm_history.specs.EarlyAnswers.{GotNull}
 use Rattle.sm_history.specs.Effects.{Effects}
 use Rattle.sm_history.specs.Checks.{Check, Wants, to_manager, to_label, calling, finding}
 use Rattle.sm_history.specs.Verdict.{not_isolated, service_meets}

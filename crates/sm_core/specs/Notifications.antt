@@ -2,13 +2,12 @@
 use Rattle.std.specs.Prelude.{ℕ, ◌-◌, ◌≡◌, true, false, ◌&&◌, nat_lt, List, [], ◌∷◌, ◌++◌, Option, length, unwrap_or}
 use Rattle.std.specs.List.{list_any}
 use Rattle.sm_kinds.specs.declared.number.Node.{Node}
-use Rattle.sm_history.specs.declared.failed_check.EarlyAnswer.TheVariants.{Refused}
+use Rattle.sm_history.specs.EarlyAnswers.{Refused}
 use Rattle.sm_history.specs.declared.refusal.Refusal.TheVariants.{Failed}
 use Rattle.sm_history.specs.declared.refusal.Failure.TheVariants.{TargetFull}
 use Rattle.sm_history.specs.declared.delivery.Delivery.{Delivery}
 use Rattle.sm_history.specs.declared.delivery.Given.{Given, TheVariants.Handle}
 use Rattle.sm_history.specs.declared.delivery.Message.TheVariants.{Registered}
-use Rattle.sm_history.specs.declared.outcome.Outcome.TheVariants.{Added}
 use Rattle.sm_history.specs.declared.limits.TheConstants.{MOST_DELIVERIES}
 use Rattle.sm_history.specs.Effects.{Effects}
 use Rattle.sm_history.specs.declared.effect.Watch.{Watch}
@@ -23,8 +22,9 @@ use Rattle.sm_history.specs.Notices.{notice_checks, notices_at, after_notice, af
 use Rattle.sm_history.specs.Sound.{Sound}
 use Rattle.sm_core.specs.Stands.{is_death}
 use Rattle.sm_core.specs.InboxRooms.{left_of}
-use Rattle.sm_core.specs.declared.plan.Plan.{Plan}
-use Rattle.sm_core.specs.declared.notifications.Notifications.{Notifications}
+use Rattle.sm_core.specs.declared.draft.Draft.{Draft}
+use Rattle.sm_core.specs.declared.inbox_rooms.InboxRooms.{InboxRooms}
+use Rattle.sm_history.specs.declared.notice.Notice.{Notice}
 
 -- These are the checks of a notice, if this many deliveries still fit into the watcher's inbox.
 abbrev pub told_checks : Effects → Node → Watch → ℕ → List Check
@@ -65,28 +65,32 @@ pub record MayTell (d : Effects) (n : Node) (xs : List Effect) : Type 0 where
   pub none_dies : list_any is_death xs ≡ false
 
 -- This many deliveries still fit into an inbox of a notified client.
-abbrev pub left_in : Notifications → ℕ → Option ℕ
-left_in t c = left_of t.left.rows.items c
+abbrev pub left_in : InboxRooms → ℕ → Option ℕ
+left_in rooms c = left_of rooms.rows.items c
 
 -- This many deliveries still fit into a client's inbox.
-abbrev pub left_at : Effects → Notifications → ℕ → ℕ
-left_at d t c = unwrap_or (left_in t c) (free_at d c)
+abbrev pub left_at : Effects → InboxRooms → ℕ → ℕ
+left_at d rooms c = unwrap_or (left_in rooms c) (free_at d c)
 
--- This holds while watchers of n are being notified.
-pub record AreNotifications (d : Effects) (n : Node) (t : Notifications) : Type 0 where
-  pub may : MayTell d n t.effects.items
-  pub left : (c : ℕ) → is_live d c ≡ true → left_at d t c ≡ free_at (followed d t.effects.items) c
+-- This holds of the drafted effects while watchers of n are being notified.
+pub record AreNotifications (d : Effects) (n : Node) (draft : Draft) (rooms : InboxRooms) : Type 0 where
+  pub may : MayTell d n draft.effects.items
+  pub left : (c : ℕ) → is_live d c ≡ true → left_at d rooms c ≡ free_at (followed d draft.effects.items) c
 
 -- One more watcher was notified, or wasn't.
-pub record GoesOn (m : Moment) (d : Effects) (n : Node) (w : Watch) (old new : Notifications) : Type 0 where
-  pub records : new.records ≡ old.records ++ left_by_all m (notice_checks (followed d old.effects.items) n w)
-  pub notifications : AreNotifications d n new
-  pub after : followed d new.effects.items ≡ after_notice (followed d old.effects.items) n w
+pub record GoesOn (m : Moment) (d : Effects) (n : Node) (w : Watch) (old new : Draft) (rooms : InboxRooms) : Type 0
+  where
+    pub told : new.told.items ≡ old.told.items ++ left_by_all m (notice_checks (followed d old.effects.items) n w)
+    pub records : new.records ≡ old.records
+    pub notifications : AreNotifications d n new rooms
+    pub after : followed d new.effects.items ≡ after_notice (followed d old.effects.items) n w
 
 -- Watchers were notified, or weren't, in order.
-pub record GoesFar (m : Moment) (d : Effects) (n : Node) (ws : List Watch) (old new : Notifications) : Type 0 where
-  pub records : new.records ≡ old.records ++ left_by_notices m (followed d old.effects.items) n ws
-  pub notifications : AreNotifications d n new
+pub record GoesFar (m : Moment) (d : Effects) (n : Node) (ws : List Watch) (old new : Draft) (rooms : InboxRooms)
+    : Type 0 where
+  pub told : new.told.items ≡ old.told.items ++ left_by_notices m (followed d old.effects.items) n ws
+  pub records : new.records ≡ old.records
+  pub notifications : AreNotifications d n new rooms
   pub after : followed d new.effects.items ≡ after_notices (followed d old.effects.items) n ws
 
 -- These effects may be put onto d before watchers of n are notified, and put nothing into an inbox.
@@ -94,15 +98,16 @@ pub record MayPrecede (d : Effects) (n : Node) (xs : List Effect) : Type 0 where
   pub may : MayTell d n xs
   pub inboxes : (c : ℕ) → inbox_at (followed d xs) c ≡ inbox_at d c
 
--- This is a plan of notices, apart from its outcome.
-pub record Tells (d after : Effects) (plan : Plan) : Type 0 where
-  pub reply_outcome : plan.reply_outcome ≡ plan.outcome
-  pub effects : followed d plan.effects ≡ after
-  pub may : MayAllApart d plan.effects
-  pub none_dies : list_any is_death plan.effects ≡ false
+-- This is a draft with notices.
+pub record Tells (d after : Effects) (draft : Draft) : Type 0 where
+  pub effects : followed d draft.effects.items ≡ after
+  pub may : MayAllApart d draft.effects.items
+  pub none_dies : list_any is_death draft.effects.items ≡ false
 
--- This is the plan of an accepted Add whose own effects lead from d to e, with notices to these watchers.
-abbrev pub TellsAdded : Moment → Effects → Effects → Node → List Watch → Plan → Type 0
-TellsAdded m d e n ws plan =
-    (plan.outcome ≡ Added (notices_at e n ws)) × (plan.records ≡ left_by_notices m e n ws)
-    × Tells d (after_notices e n ws) plan
+-- These watchers were notified, or weren't, after the effects that were drafted before, and these are the notices.
+pub record TellsAll (m : Moment) (d : Effects) (n : Node) (ws : List Watch) (old new : Draft) (made : List Notice)
+    : Type 0 where
+  pub notices : made ≡ notices_at (followed d old.effects.items) n ws
+  pub told : new.told.items ≡ old.told.items ++ left_by_notices m (followed d old.effects.items) n ws
+  pub records : new.records ≡ old.records
+  pub tells : Tells d (after_notices (followed d old.effects.items) n ws) new

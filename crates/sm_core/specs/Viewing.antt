@@ -16,7 +16,6 @@ use Rattle.sm_history.specs.Lawful.{IsLawful, FitsPlaces, HasSoundPolicy}
 use Rattle.sm_history.specs.Verdict.{verdict}
 use Rattle.sm_kinds.specs.declared.limits.TheConstants.{MOST_PLACES}
 use Rattle.sm_names.specs.Rows.{TracksRows}
-use Rattle.sm_core.specs.declared.ready.Ready.{Ready}
 use Rattle.sm_core.specs.declared.turn_counts.TurnCounts.{TurnCounts}
 use Rattle.sm_core.specs.declared.turns.Turns.{Turns}
 use Rattle.sm_core.specs.declared.view_tables.ViewTables.{ViewTables}
@@ -75,11 +74,10 @@ pub record Viewed (places : ℕ) (h : History) (length : ℕ) (tables : ViewTabl
   pub named : TracksRows (effects_of h) (arc_value tables.services).rows.items
   pub turns : (by : By) → counted_with newest tables.turn_counts by ≡ turn_of h by
 
--- What is asked of an event that is ready, after this history.
-pub record IsComing (places : ℕ) (h : History) (r : Ready) : Type 0 where
-  pub done : verdict places h r.entry.by r.entry.turn r.entry.event ≡ Done r.entry.outcome
-  pub sound : HasSoundPolicy r.entry.event
-  pub effects : followed (effects_of h) r.effects
-      ≡ after_event (effects_of h) (client_of r.entry.by) r.entry.event
-  pub may : MayAllApart (effects_of h) r.effects
-  pub numbers : version_at (effects_of h) + sets_in r.effects < GREATEST
+-- A change with these effects comes after this history.
+pub record IsComing (places : ℕ) (h : History) (e : Entry) (xs : List Effect) : Type 0 where
+  pub done : verdict places h e.by e.turn e.event ≡ Done e.outcome
+  pub sound : HasSoundPolicy e.event
+  pub effects : followed (effects_of h) xs ≡ after_event (effects_of h) (client_of e.by) e.event
+  pub may : MayAllApart (effects_of h) xs
+  pub numbers : version_at (effects_of h) + sets_in xs < GREATEST

@@ -4,16 +4,15 @@ ghost use Rattle.std.specs.Prelude.{◌≡◌, ◌⊎◌, None, Some, option_map
 ghost use Rattle.sm_kinds.specs.Contexts.{type_of};
 ghost use Rattle.sm_policy.specs.Policy.{allowed, decision, type_index};
 ghost use Rattle.sm_history.specs.Checks.{rule_denial};
-ghost use Rattle.sm_history.specs.declared.failed_check.FailedCheck.TheVariants.{Unruled, Barred};
-ghost use Rattle.sm_history.specs.declared.refusal.Refusal.TheVariants.{Memory, Denied};
+ghost use Rattle.sm_history.specs.declared.refusal.Refusal.TheVariants.{Denied};
+ghost use Rattle.sm_history.specs.declared.reply.Reply.TheVariants.{Refused};
 ghost use Rattle.sm_core.specs.Judging.{IsRuled, noted, clause_noted};
 ghost use Rattle.sm_core.specs.Tables.{process_under};
 
-use crate::notes::Notes;
 use crate::principals::Principals;
 use crate::process::Process;
-use crate::small_failed_check::{Checked, SmallFailedCheck};
-use sm_history::{Denial, FailedCheck, Record, Refusal};
+use crate::refusing::Checked;
+use sm_history::{Denial, Record, Refusal, Reply, Shared};
 use sm_kinds::{Class, Context, Identity, Name, Perms};
 use sm_policy::Decision;
 use std::alloc::{AllocError, Global};
@@ -39,14 +38,26 @@ pub fn denial(
     })
 }
 
-/// Returns the refusal for a missing rule.
-pub fn denied(alloc: Global, class: Class, perm: Perms, who: &Identity, target: &Context) -> Refusal
-    ensures { (result ≡ Memory) ⊎ (result ≡ Denied (rule_denial class perm who.now target.now)) }
+/// Returns the refusal by a denial.
+fn denied_by(alloc: Global, denial: Denial) -> Result<Refusal, AllocError>
+    ensures { IfOk result (λ r. r ≡ Denied denial) }
 {
-    match denial(alloc, class, perm, who, target) {
-        Ok(denial) => Refusal::Denied(denial),
-        Err(_) => Refusal::Memory,
-    }
+    Ok(Refusal::Denied(Shared::new(alloc, denial)?))
+}
+
+/// Returns the refusal for a missing rule.
+#[cold]
+#[inline(never)]
+pub fn denied(
+    alloc: Global,
+    class: Class,
+    perm: Perms,
+    who: &Identity,
+    target: &Context,
+) -> Result<Refusal, AllocError>
+    ensures { IfOk result (λ r. r ≡ Denied (rule_denial class perm who.now target.now)) }
+{
+    denied_by(alloc, denial(alloc, class, perm, who, target)?)
 }
 
 /// Copies a name, if there is one.
@@ -67,23 +78,6 @@ struct Asked<'a> {
     name: Option<&'a Name>,
     class: Class,
     perm: Perms,
-}
-
-/// Returns the failed check of an access that no allow rule grants.
-#[cold]
-#[inline(never)]
-fn unruled(alloc: Global, asked: &Asked) -> Result<SmallFailedCheck, AllocError>
-    ensures { IfOk result (λ s. s ≡ Unruled asked.now.class asked.now.perm asked.now.who.now asked.now.target.now
-        (option_map (λ n. n.now) asked.now.name)) }
-{
-    let stop = FailedCheck::Unruled {
-        class: asked.class,
-        perm: asked.perm,
-        who: asked.who.clone()?,
-        target: asked.target.clone()?,
-        name: copied(asked.name)?,
-    };
-    SmallFailedCheck::whole(alloc, stop)
 }
 
 /// What a check of an allow rule reads. Contracts see the moment: the number of changes so far, and the policy in force
@@ -112,10 +106,15 @@ impl<'a> Access<'a> {
     #[cold]
     #[inline(never)]
     #[tactic(auto, unfolding(crate::specs::Judging::noted))]
-    fn audit(&self, made: Decision, asked: &Asked, notes: &mut Notes) -> Result<(), AllocError>
+    fn audit(
+        &self,
+        made: Decision,
+        asked: &Asked,
+        notes: &mut Vec<Record>,
+    ) -> Result<(), AllocError>
         requires { made ≡ decision self.now.policy (type_of asked.now.who.now.context) (type_of asked.now.target.now)
             asked.now.class asked.now.perm }
-        ensures { OnOk result (notes.new ≡ noted self.now notes.old asked.now.class asked.now.perm asked.now.who.now
+        ensures { OnOk result (notes.new.items ≡ noted self.now notes.old.items asked.now.class asked.now.perm asked.now.who.now
             asked.now.target.now (option_map (λ n. n.now) asked.now.name)) }
     {
         if !made.audited {
@@ -129,10 +128,11 @@ impl<'a> Access<'a> {
             who: asked.who.clone()?,
             target: Some(asked.target.clone()?),
             name: copied(asked.name)?,
-        })
+        })?;
+        Ok(())
     }
 
-    /// Returns the failed check of a clause on the user number, and appends its record.
+    /// Returns the reply to a failed clause on the user number, and appends its record.
     #[cold]
     #[inline(never)]
     #[tactic(auto, unfolding(crate::specs::Judging::clause_noted))]
@@ -141,10 +141,10 @@ impl<'a> Access<'a> {
         denial: Denial,
         who: &Identity,
         name: &Name,
-        notes: &mut Notes,
-    ) -> Result<SmallFailedCheck, AllocError>
-        ensures { IfOk result (λ s. (s ≡ Barred denial who.now name.now)
-            × (notes.new ≡ clause_noted self.now notes.old denial who.now name.now)) }
+        notes: &mut Vec<Record>,
+    ) -> Result<Reply, AllocError>
+        ensures { IfOk result (λ r. (r ≡ Refused (Denied denial))
+            × (notes.new.items ≡ clause_noted self.now notes.old.items denial who.now name.now)) }
     {
         let noted = denial.clone()?;
         notes.push(Record {
@@ -156,12 +156,7 @@ impl<'a> Access<'a> {
             target: None,
             name: Some(name.clone()?),
         })?;
-        let stop = FailedCheck::Barred {
-            denial,
-            who: who.clone()?,
-            name: name.clone()?,
-        };
-        SmallFailedCheck::whole(self.alloc, stop)
+        Ok(Reply::Refused(denied_by(self.alloc, denial)?))
     }
 
     /// Checks that an allow rule grants a permission from a process to another one.
@@ -172,11 +167,11 @@ impl<'a> Access<'a> {
         target: &Process,
         class: Class,
         perm: Perms,
-        notes: &mut Notes,
+        notes: &mut Vec<Record>,
     ) -> Checked<()>
         requires source { source.now ≡ process_under self.now.policy source.now.who }
         requires target { target.now ≡ process_under self.now.policy target.now.who }
-        ensures { IsRuled self.now notes.old notes.new class perm source.now.who
+        ensures { IsRuled self.now notes.old.items notes.new.items class perm source.now.who
             target.now.who.context None result }
     {
         let context = &target.who.context;
@@ -195,11 +190,11 @@ impl<'a> Access<'a> {
         name: Option<&Name>,
         class: Class,
         perm: Perms,
-        notes: &mut Notes,
+        notes: &mut Vec<Record>,
     ) -> Checked<()>
         requires source { source.now ≡ process_under self.now.policy source.now.who }
         requires target { index ≡ type_index self.now.policy (type_of target.now) }
-        ensures { IsRuled self.now notes.old notes.new class perm source.now.who target.now
+        ensures { IsRuled self.now notes.old.items notes.new.items class perm source.now.who target.now
             (option_map (λ n. n.now) name.entry) result }
     {
         let decision = self
@@ -225,10 +220,10 @@ impl<'a> Access<'a> {
         name: Option<&Name>,
         class: Class,
         perm: Perms,
-        notes: &mut Notes,
+        notes: &mut Vec<Record>,
     ) -> Checked<()>
         requires { made ≡ decision self.now.policy (type_of who.now.context) (type_of target.now) class perm }
-        ensures { IsRuled self.now notes.old notes.new class perm who.now target.now
+        ensures { IsRuled self.now notes.old.items notes.new.items class perm who.now target.now
             (option_map (λ n. n.now) name.entry) result }
     {
         let asked = Asked {
@@ -242,6 +237,7 @@ impl<'a> Access<'a> {
         if made.allowed {
             return Ok(());
         }
-        Err(unruled(self.alloc, &asked)?)
+        let refusal = denied(self.alloc, class, perm, who, target)?;
+        Err(Reply::Refused(refusal))
     }
 }

@@ -17,10 +17,8 @@ use crate::access::Access;
 use crate::caller::Caller;
 use crate::client::LiveClient;
 use crate::journal::Journal;
-use crate::manager::replying::{answer, is_memory};
-use crate::notes::Notes;
 use crate::principals::Principals;
-use crate::small_failed_check::{Checked, ShortAnswer, SmallFailedCheck};
+use crate::refusing::{Checked, failed, is_memory};
 use sm_history::{Answer, By, Entry, Failure, NameList, Query, Record, Reply, Shared};
 use sm_kinds::{Class, Perms};
 use sm_names::Services;
@@ -75,15 +73,14 @@ impl<'a> QueryTables<'a> {
         ensures looks { Looks self.now by query.now result.0 }
         ensures records { result.1.items ≡ look_leaves self.now by query.now result.0 }
     {
-        let mut notes = Notes::none(self.alloc);
+        let mut notes = Vec::new(self.alloc);
         match self.judge_query(by, query, &mut notes) {
-            Ok(found) => (self.looked(found), notes.into_list()),
-            Err(stop) => {
-                let reply = answer(self.alloc, stop);
+            Ok(found) => (self.looked(found), notes),
+            Err(reply) => {
                 if is_memory(&reply) {
                     return (reply, Vec::new(self.alloc));
                 }
-                (reply, notes.into_list())
+                (reply, notes)
             }
         }
     }
@@ -100,17 +97,17 @@ impl<'a> QueryTables<'a> {
     }
 
     /// Returns why a query is refused, or its result.
-    fn judge_query(&self, by: By, query: &Query, notes: &mut Notes) -> Checked<Answer>
-        ensures judged { PassesWith (moment_of self.now.history) notes.old notes.new
+    fn judge_query(&self, by: By, query: &Query, notes: &mut Vec<Record>) -> Checked<Answer>
+        ensures judged { PassesWith (moment_of self.now.history) notes.old.items notes.new.items
             (checks_of_query self.now.history by query.now)
             (λ found. found ≡ found_out (effects_of self.now.history) query.now) result }
         ensures asker { takes_memory query.now ≡ false → IfErr result IsAskerStop }
     {
         if !may_ask(by, query) {
-            return Err(SmallFailedCheck::unmet(ShortAnswer::Failed(Failure::NotYours)));
+            return Err(failed(Failure::NotYours));
         }
         let Some(caller) = self.principals.caller(by) else {
-            return Err(SmallFailedCheck::unmet(ShortAnswer::Failed(Failure::NotConnected)));
+            return Err(failed(Failure::NotConnected));
         };
         match query {
             Query::List(mask) => match caller {
@@ -132,9 +129,9 @@ impl<'a> QueryTables<'a> {
     }
 
     /// Judges a list (`listServices`): `list` is checked against the manager's own context.
-    fn list(&self, row: &LiveClient, mask: u32, notes: &mut Notes) -> Checked<Answer>
+    fn list(&self, row: &LiveClient, mask: u32, notes: &mut Vec<Record>) -> Checked<Answer>
         requires { row.now ≡ client_row (effects_of self.now.history) row.now.id }
-        ensures { PassesWith (moment_of self.now.history) notes.old notes.new
+        ensures { PassesWith (moment_of self.now.history) notes.old.items notes.new.items
             (list_checks (effects_of self.now.history) row.now.id)
             (λ found. found ≡ found_out (effects_of self.now.history) (ListNames mask)) result }
     {

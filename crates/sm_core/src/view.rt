@@ -13,12 +13,11 @@ ghost use Rattle.sm_history.specs.Promises.{Looks};
 
 use crate::journal::Journal;
 use crate::query_tables::QueryTables;
-use crate::ready::Ready;
 use crate::state::State;
 use crate::turn_counts::{TurnCounts, is_same};
 use crate::turns::Turns;
 use crate::view_tables::{ViewTables, next_tables};
-use sm_history::{By, Entry, Query, Record, Reply, TurnRow};
+use sm_history::{By, Effect, Entry, Query, Record, Reply, TurnRow};
 use sm_kinds::drop_fields;
 use std::alloc::{AllocError, Global};
 use std::marker::Model;
@@ -71,7 +70,7 @@ impl View {
         state: &State,
         turns: &Turns,
     ) -> Result<View, AllocError>
-        requires { Kept places journal.now.history turns.now state.now [] }
+        requires { Kept places journal.now.history turns.now state.now }
         ensures { IfOk result (λ v. v ≡ record { places = places; history = journal.now.history }) }
     {
         let tables = ViewTables {
@@ -96,17 +95,17 @@ impl View {
         &self,
         journal: &Journal,
         turns: &Turns,
-        ready: &Ready,
+        entry: &Entry,
+        effects: &[Effect],
     ) -> Result<View, AllocError>
         requires history { journal.now.history ≡ self.now.history }
         requires turns { (by : By) → change_count turns.now by ≡ turn_of self.now.history by }
-        requires coming { IsComing self.now.places self.now.history ready.now }
+        requires coming { IsComing self.now.places self.now.history entry.now effects.now }
         ensures { IfOk result
-            (λ v. v ≡ record { places = self.now.places; history = entered ready.now.entry self.now.history }) }
+            (λ v. v ≡ record { places = self.now.places; history = entered entry.now self.now.history }) }
     {
         let alloc = self.alloc;
-        let by = ready.entry.by;
-        let effects = ready.effects.as_slice();
+        let by = entry.by;
         Ok(View {
             alloc,
             places: self.places,
@@ -117,7 +116,7 @@ impl View {
                 turns: turns.of(by) + 1,
             },
             journal: Snapshot::of(journal),
-            next: Some(Snapshot::of(&ready.entry)),
+            next: Some(Snapshot::of(entry)),
         })
     }
 

@@ -6,7 +6,6 @@ ghost use Rattle.sm_audit.specs.declared.ring.TheConstants.{MOST_RECORDS};
 ghost use Rattle.sm_core.specs.Managed.{ring_after, step_leaves};
 ghost use Rattle.sm_core.specs.Readying.{IsReady};
 ghost use Rattle.sm_core.specs.SealReady.{IsReadySeal};
-ghost use Rattle.sm_core.specs.SmallChanges.{is_small};
 ghost use Rattle.sm_history.specs.declared.outcome.Outcome.TheVariants.{Connected};
 ghost use Rattle.sm_history.specs.declared.reply.Reply.TheVariants.{Done, Refused};
 ghost use Rattle.sm_history.specs.Histories.{client_of, turn_of};
@@ -27,7 +26,7 @@ use crate::seat::Seat;
 use crate::session::Session;
 use crate::shared_view::SharedView;
 use left_right::Absorb;
-use sm_core::{Manager, Ready, ReadySeal, View, has_small_change};
+use sm_core::{Manager, Ready, ReadySeal, View};
 use sm_history::{By, Event, Failure, Record, Refusal, Reply, Segment, connected, moves};
 use sm_kinds::Identity;
 use std::alloc::{AllocError, Global};
@@ -82,7 +81,7 @@ fn show_sealed<J: Naming, R: Wait>(
     publisher: &mut Publisher<J>,
     ready: &ReadySeal,
 ) -> Result<(), AllocError>
-    requires ready { IsReadySeal manager.now ready.now }
+    requires ready { IsReadySeal manager.now.book ready.now }
     requires shown { publisher.old ≡ manager.now.book }
     ensures { MatchResult result (λ done. publisher.new ≡ sealed_book manager.now.book)
         (λ e. publisher.new ≡ publisher.old) }
@@ -213,46 +212,16 @@ impl<J: Naming> LockedManager<J> {
         ensures ring { self.new.ring ≡ ring_after self.old.ring self.old.book by turn event result.0 }
         ensures records { result.1.items ≡ step_leaves self.old.book by turn event result.0 }
     {
-        if has_small_change(&event) {
-            return self.step_small(rt, by, turn, event);
-        }
-        self.step_any(rt, by, turn, event)
-    }
-
-    /// As `step`, with the code for an event with a small change alone, which doesn't zero the locals of a plan.
-    #[inline(never)]
-    fn step_small<R: Wait>(
-        &mut self,
-        rt: &R,
-        by: By,
-        turn: u64,
-        event: Event,
-    ) -> (Reply, Vec<Record>)
-        requires { is_small event ≡ true }
-        ensures answers { Steps self.old.book by turn event result.0 self.new.book }
-        ensures ring { self.new.ring ≡ ring_after self.old.ring self.old.book by turn event result.0 }
-        ensures records { result.1.items ≡ step_leaves self.old.book by turn event result.0 }
-    {
-        if !has_small_change(&event) {
-            unreachable!();
-        }
-        self.step_any(rt, by, turn, event)
-    }
-
-    /// As `step`. Where the kind of the event is known, the code for other kinds goes, since this is in line.
-    #[inline(always)]
-    fn step_any<R: Wait>(&mut self, rt: &R, by: By, turn: u64, event: Event) -> (Reply, Vec<Record>)
-        ensures answers { Steps self.old.book by turn event result.0 self.new.book }
-        ensures ring { self.new.ring ≡ ring_after self.old.ring self.old.book by turn event result.0 }
-        ensures records { result.1.items ≡ step_leaves self.old.book by turn event result.0 }
-    {
-        let (ready, records) = match self.manager.ready_recorded(by, turn, event) {
-            Ok(made) => made,
+        let ready = match self.manager.ready(by, turn, event) {
+            Ok(ready) => ready,
             Err(refused) => return refused,
         };
         match show_ready(rt, &self.manager, &mut self.publisher, &ready) {
-            Ok(()) => (self.manager.commit(ready), records),
-            Err(_) => (Reply::Refused(Refusal::Memory), Vec::new(self.alloc)),
+            Ok(()) => self.manager.commit(ready),
+            Err(_) => {
+                self.manager.cancel(ready);
+                (Reply::Refused(Refusal::Memory), Vec::new(self.alloc))
+            }
         }
     }
 

@@ -8,13 +8,13 @@ use Rattle.sm_kinds.specs.declared.number.Node.{Node}
 use Rattle.sm_kinds.specs.declared.number.ObjRef.{ObjRef}
 use Rattle.sm_kinds.specs.declared.number.ObjRef.TheVariants.{Own as OwnRef, Handle as HandleRef, Null as NullRef}
 use Rattle.sm_policy.specs.Policy.{Policy}
-use Rattle.sm_history.specs.declared.failed_check.EarlyAnswer.{EarlyAnswer}
+use Rattle.sm_history.specs.EarlyAnswers.{EarlyAnswer}
 use Rattle.sm_history.specs.declared.event.Event.{Event}
 use Rattle.sm_history.specs.declared.event.Event.TheVariants.{Open, Connect, Add, Get, Watch as WatchName, Unwatch}
 use Rattle.sm_history.specs.declared.event.Event.TheVariants.{Unregister, Call, Release, Take, Die, Reload}
 use Rattle.sm_history.specs.declared.refusal.Refusal.TheVariants.{Failed, Dead}
 use Rattle.sm_history.specs.declared.refusal.Failure.TheVariants.{BadHandle, TargetFull}
-use Rattle.sm_history.specs.declared.failed_check.EarlyAnswer.TheVariants.{Refused}
+use Rattle.sm_history.specs.EarlyAnswers.{Refused}
 use Rattle.sm_history.specs.Effects.{Effects, Service}
 use Rattle.sm_history.specs.Clients.{is_live, live_clients}
 use Rattle.sm_history.specs.Holdings.{is_held, node_at, resolve_at, handed, fits_handles, is_in_use}

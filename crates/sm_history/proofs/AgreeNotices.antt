@@ -7,7 +7,7 @@ use Rattle.std.proofs.lemmas.Bool.{true≢false, and_parts}
 use Rattle.sm_kinds.specs.declared.number.Node.{Node}
 use Rattle.sm_kinds.specs.declared.number.ObjRef.{ObjRef}
 use Rattle.sm_kinds.specs.declared.number.ObjRef.TheVariants.{Own as OwnRef, Handle as HandleRef, Null as NullRef}
-use Rattle.sm_history.specs.declared.failed_check.FailedCheck.{FailedCheck}
+use Rattle.sm_history.specs.FailedChecks.{FailedCheck}
 use Rattle.sm_history.specs.declared.notice.Notice.{Notice}
 use Rattle.sm_history.specs.declared.notice.Told.TheVariants.{Told as IsTold}
 use Rattle.sm_history.specs.declared.delivery.Delivery.{Delivery}
@@ -29,7 +29,7 @@ use Rattle.sm_history.proofs.HeldAlike.{counts_alike}
 use Rattle.sm_history.proofs.Sound.{Numbers}
 use Rattle.sm_history.proofs.AgreeEffects.{Sim, sim_held, sim_nodes, sim_free, sim_gives, sim_delivers}
 use Rattle.sm_history.specs.declared.limits.TheConstants.{MOST_HANDLES, MOST_DELIVERIES}
-use Rattle.sm_history.specs.declared.failed_check.EarlyAnswer.{EarlyAnswer}
+use Rattle.sm_history.specs.EarlyAnswers.{EarlyAnswer}
 
 pub both : {A B C : Type 0} (f : A → B → C) {a a' : A} {b b' : B} → a ≡ a' → b ≡ b' → f a b ≡ f a' b'
 both {A} {B} {C} f {a} {a'} {b} {b'} p q = ap (λ x. f x b) p ∙ ap (f a') q

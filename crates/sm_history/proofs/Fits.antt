@@ -11,7 +11,7 @@ use Rattle.sm_history.specs.Effects.{Dies}
 use Rattle.sm_history.specs.Clients.{live_clients, is_live}
 use Rattle.sm_history.specs.Histories.{History, effects_of, entered, client_of, turn_of}
 use Rattle.sm_history.specs.declared.refusal.Refusal.TheVariants.{JournalFull}
-use Rattle.sm_history.specs.declared.failed_check.EarlyAnswer.TheVariants.{Refused}
+use Rattle.sm_history.specs.EarlyAnswers.{Refused}
 use Rattle.sm_history.specs.Checks.{Wants}
 use Rattle.sm_history.specs.Verdict.{verdict, has_place}
 use Rattle.sm_history.specs.Lawful.{FitsPlaces}

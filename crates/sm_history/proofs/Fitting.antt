@@ -10,7 +10,7 @@ use Rattle.sm_history.specs.declared.entry.Entry.{Entry}
 use Rattle.sm_history.specs.declared.event.Event.{Event}
 use Rattle.sm_history.specs.declared.event.Event.TheVariants.{Connect, Add, Release, Die}
 use Rattle.sm_history.specs.declared.reply.Reply.TheVariants.{Done}
-use Rattle.sm_history.specs.declared.failed_check.EarlyAnswer.TheVariants.{Refused}
+use Rattle.sm_history.specs.EarlyAnswers.{Refused}
 use Rattle.sm_history.specs.declared.refusal.Refusal.TheVariants.{JournalFull}
 use Rattle.sm_history.specs.Effects.{Effects, Connects, Dies}
 use Rattle.sm_history.specs.Checks.{Check, Wants}

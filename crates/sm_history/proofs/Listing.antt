@@ -13,7 +13,7 @@ use Rattle.sm_history.specs.declared.entry.Entry.{Entry}
 use Rattle.sm_history.specs.declared.event.Event.{Event}
 use Rattle.sm_history.specs.declared.event.Event.TheVariants.{Add, Get, Watch as WatchName, Call}
 use Rattle.sm_history.specs.declared.reply.Reply.TheVariants.{Done}
-use Rattle.sm_history.specs.declared.failed_check.FailedCheck.{FailedCheck}
+use Rattle.sm_history.specs.FailedChecks.{FailedCheck}
 use Rattle.sm_history.specs.Effects.{Effect, Effects, Service, Watch, Adds, Gives, Watches}
 use Rattle.sm_history.specs.Clients.{connected, policy_at}
 use Rattle.sm_history.specs.Holdings.{given_to, handed, number_for, resolve_at, node_at}
@@ -27,7 +27,7 @@ use Rattle.sm_history.specs.Histories.{service, watch}
 use Rattle.sm_history.specs.Verdict.{answered, checks, handing_checks, has_place, outcome_of, handle_number}
 use Rattle.sm_history.specs.Verdict.{notice_of_watch}
 use Rattle.sm_history.specs.Checks.{Wants, first_failing}
-use Rattle.sm_history.specs.declared.failed_check.EarlyAnswer.TheVariants.{Refused}
+use Rattle.sm_history.specs.EarlyAnswers.{Refused}
 use Rattle.sm_history.specs.declared.refusal.Refusal.TheVariants.{JournalFull}
 use Rattle.sm_history.specs.declared.outcome.Outcome.TheVariants.{Granted, Watched}
 use Rattle.sm_history.specs.Lawful.{AreLawful, IsLawful}

@@ -10,9 +10,9 @@ use Rattle.sm_history.specs.Effects.{Effects, Service, Connects, Adds, Removes, 
 use Rattle.sm_history.specs.Clients.{next_client}
 use Rattle.sm_history.specs.Services.{last_said, Silent, Gone, Here, said_or}
 use Rattle.sm_history.specs.Checks.{Check, holds, answer_of, first_failing, failed_check_of}
-use Rattle.sm_history.specs.declared.failed_check.FailedCheck.{FailedCheck}
-use Rattle.sm_history.specs.declared.failed_check.EarlyAnswer.TheVariants.{GotNull as IsNull}
-use Rattle.sm_history.specs.declared.failed_check.FailedCheck.TheVariants.{Unmet}
+use Rattle.sm_history.specs.FailedChecks.{FailedCheck}
+use Rattle.sm_history.specs.EarlyAnswers.{GotNull as IsNull}
+use Rattle.sm_history.specs.FailedChecks.{Unmet}
 use Rattle.sm_history.specs.Verdict.{answered}
 use Rattle.sm_history.proofs.Keeps.{Lasts}
 use Rattle.sm_history.specs.Sound.{IsOwned}

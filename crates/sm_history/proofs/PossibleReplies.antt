@@ -9,7 +9,7 @@ use Rattle.sm_history.specs.declared.limits.TheConstants.{MOST_CLIENTS, LAST_CLI
 use Rattle.sm_history.specs.declared.outcome.Outcome.TheVariants.{Connected, Died, Reloaded}
 use Rattle.sm_history.specs.declared.refusal.Refusal.TheVariants.{Failed, TooManyClients, VersionMoved, JournalFull}
 use Rattle.sm_history.specs.declared.refusal.Failure.TheVariants.{NotYours, NotConnected, OutOfTurn}
-use Rattle.sm_history.specs.declared.failed_check.EarlyAnswer.TheVariants.{Refused}
+use Rattle.sm_history.specs.EarlyAnswers.{Refused}
 use Rattle.sm_history.specs.Clients.{policy_at, version_at, is_live, live_clients, next_client}
 use Rattle.sm_history.specs.Checks.{Wants, first_failing}
 use Rattle.sm_history.specs.Histories.{History, effects_of, turn_of}

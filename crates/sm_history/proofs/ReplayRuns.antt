@@ -7,7 +7,7 @@ use Rattle.sm_history.specs.declared.limits.TheConstants.{GREATEST}
 use Rattle.sm_history.specs.declared.entry.Entry.{Entry}
 use Rattle.sm_history.specs.declared.reply.Reply.TheVariants.{Done}
 use Rattle.sm_history.specs.declared.refusal.Refusal.TheVariants.{JournalFull}
-use Rattle.sm_history.specs.declared.failed_check.EarlyAnswer.TheVariants.{Refused}
+use Rattle.sm_history.specs.EarlyAnswers.{Refused}
 use Rattle.sm_history.specs.declared.replay.Replay.{Replay}
 use Rattle.sm_history.specs.Clients.{policy_at, version_at}
 use Rattle.sm_history.specs.Checks.{Wants, first_failing}

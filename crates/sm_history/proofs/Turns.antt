@@ -15,7 +15,7 @@ use Rattle.sm_history.specs.declared.refusal.Refusal.TheVariants.{Failed}
 use Rattle.sm_history.specs.declared.refusal.Failure.TheVariants.{NotYours, NotConnected, OutOfTurn}
 use Rattle.sm_history.specs.declared.reply.Reply.{Reply}
 use Rattle.sm_history.specs.declared.reply.Reply.TheVariants.{Done, Refused}
-use Rattle.sm_history.specs.declared.failed_check.EarlyAnswer.TheVariants.{Refused as IsRefused}
+use Rattle.sm_history.specs.EarlyAnswers.{Refused as IsRefused}
 use Rattle.sm_history.specs.declared.service.Service.{Service}
 use Rattle.sm_history.specs.Books.{Book}
 use Rattle.sm_history.specs.Effects.{Effects}

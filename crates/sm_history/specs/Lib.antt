@@ -7,6 +7,8 @@ pub mod Holdings
 pub mod Services
 pub mod Rising
 pub mod Inboxes
+pub mod EarlyAnswers
+pub mod FailedChecks
 pub mod Checks
 pub mod Notices
 pub mod Histories

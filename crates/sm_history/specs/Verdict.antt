@@ -11,7 +11,7 @@ use Rattle.sm_kinds.specs.declared.number.Node.{Node}
 use Rattle.sm_kinds.specs.declared.number.ObjRef.{ObjRef, TheVariants.Null as NullRef}
 use Rattle.sm_kinds.specs.Names.{is_valid_name}
 use Rattle.sm_kinds.specs.Users.{is_barred, is_isolated_user}
-use Rattle.sm_history.specs.declared.failed_check.FailedCheck.{FailedCheck}
+use Rattle.sm_history.specs.FailedChecks.{FailedCheck}
 use Rattle.sm_history.specs.declared.by.By.{By, TheVariants.Manager, TheVariants.Client, TheVariants.Admin}
 use Rattle.sm_history.specs.declared.event.Event.{Event}
 use Rattle.sm_history.specs.declared.event.Event.TheVariants.{Open, Connect, Add, Get, Watch as WatchName, Unwatch}
@@ -28,7 +28,7 @@ use Rattle.sm_history.specs.declared.refusal.Exception.TheVariants.{NotAdder, In
 use Rattle.sm_history.specs.declared.refusal.Exception.TheVariants.{DeadOwner, TableFull, NothingToUnregister}
 use Rattle.sm_history.specs.declared.refusal.Exception.TheVariants.{NotRegistered, OtherObject, InUse}
 use Rattle.sm_history.specs.declared.reply.Reply.{Reply, TheVariants.Done}
-use Rattle.sm_history.specs.declared.failed_check.EarlyAnswer.TheVariants.{GotNull, GotOwn, Refused}
+use Rattle.sm_history.specs.EarlyAnswers.{GotNull, GotOwn, Refused}
 use Rattle.sm_history.specs.declared.delivery.Delivery.{Delivery}
 use Rattle.sm_history.specs.declared.notice.Notice.{Notice}
 use Rattle.sm_history.specs.Effects.{Effects, Service, Watch, Adds, Watches, same_node}

@@ -20,7 +20,6 @@ mod denial;
 mod effect;
 mod entry;
 mod event;
-mod failed_check;
 mod gate;
 pub mod laws;
 mod limits;
@@ -50,7 +49,6 @@ pub use denial::Denial;
 pub use effect::{Effect, Watch, WatchPair};
 pub use entry::Entry;
 pub use event::Event;
-pub use failed_check::{EarlyAnswer, FailedCheck};
 pub use gate::{Gate, NoGate};
 pub use limits::{
     GREATEST, LAST_CLIENT, MOST_CLIENTS, MOST_DELIVERIES, MOST_HANDLES, MOST_NAMES, MOST_WATCHES,

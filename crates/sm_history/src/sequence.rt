@@ -64,18 +64,4 @@ impl<T: Drop> Sequence<T> {
         let Sequence { items } = self;
         items
     }
-
-    /// Returns these values, followed by more.
-    #[inline(always)]
-    pub fn and(self, more: Sequence<T>) -> Result<Vec<T>, AllocError>
-        ensures { IfOk result (λ v. v.items ≡ self ++ more) }
-    {
-        let Sequence { mut items } = self;
-        let Sequence { items: mut more } = more;
-        if more.is_empty() {
-            return Ok(items);
-        }
-        items.append(&mut more)?;
-        Ok(items)
-    }
 }

@@ -3,6 +3,7 @@
 ghost use Rattle.std.specs.Prelude.{◌≡◌, IfOk};
 
 use std::alloc::{AllocError, Global};
+use std::fmt;
 use std::marker::Model;
 use std::sync::Arc;
 
@@ -50,5 +51,17 @@ impl<T: Drop> Shared<T> {
         ensures { result.now ≡ self.now }
     {
         &self.value
+    }
+}
+
+impl<T: fmt::Display + Drop> fmt::Display for Shared<T> {
+    fn fmt<W: fmt::Write>(&self, f: &mut fmt::Formatter<W>) -> fmt::Result {
+        write!(f, "{}", self.get())
+    }
+}
+
+impl<T: fmt::Debug + Drop> fmt::Debug for Shared<T> {
+    fn fmt<W: fmt::Write>(&self, f: &mut fmt::Formatter<W>) -> fmt::Result {
+        write!(f, "{:?}", self.get())
     }
 }

@@ -14,7 +14,7 @@ pub fn is_hidden(reply: &Reply) -> bool
     ensures { result ≡ is_hidden reply.now }
 {
     match reply {
-        Reply::Refused(Refusal::Denied(denial)) => is_hidden_denial(denial),
+        Reply::Refused(Refusal::Denied(denial)) => is_hidden_denial(denial.get()),
         _ => false,
     }
 }

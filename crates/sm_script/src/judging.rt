@@ -9,14 +9,13 @@ ghost use Rattle.sm_history.specs.declared.records.Record.{Record};
 ghost use Rattle.sm_history.specs.declared.refusal.Refusal.TheVariants.{Memory};
 ghost use Rattle.sm_history.specs.declared.reply.Reply.{Reply};
 ghost use Rattle.sm_history.specs.declared.reply.Reply.TheVariants.{Refused};
-ghost use Rattle.sm_core.specs.SmallChanges.{is_small};
 ghost use Rattle.sm_wire.specs.declared.telling.Telling.TheVariants.{Whole};
 ghost use Rattle.sm_wire.specs.Replies.{denials_text, told_text};
 ghost use Rattle.sm_script.specs.Answering.{AnswersNow, AnswersQuery, SealsNow, Told, asker_of, recorded};
 ghost use Rattle.sm_script.specs.Answering.{the_administrator};
 
 use sm_audit::push_lines;
-use sm_core::{Manager, has_small_change};
+use sm_core::Manager;
 use sm_history::{Answer, By, Event, Query, Record, Refusal, Reply};
 use sm_kinds::{AdminId, ClientId, Identity};
 use sm_policy::Prepared;
@@ -42,7 +41,7 @@ pub fn answer_hello(
         × AnswersNow (recorded manager.old) ByManager (Connect who) reply noted (recorded manager.new)) }
 {
     let event = Event::Connect(who);
-    answer_planned(
+    answer_event(
         alloc,
         manager,
         By::Manager,
@@ -74,11 +73,11 @@ pub fn answer_prepared(
     let by = By::Admin(ADMINISTRATOR);
     let prepared = policy;
     let event = Event::Reload { expected, prepared };
-    answer_planned(alloc, manager, by, event, Telling::Whole, replies, audit)
+    answer_event(alloc, manager, by, event, Telling::Whole, replies, audit)
 }
 
-/// Makes an actor's event, at the actor's turn, and answers with the visible part of the reply. Events with a small change
-/// have a function of their own, which doesn't zero the locals of the others.
+/// Makes an actor's event, at the actor's turn, and answers with the visible part of the reply.
+#[inline(never)]
 pub fn answer_event(
     alloc: Global,
     manager: &mut Manager,
@@ -94,54 +93,7 @@ pub fn answer_event(
     ensures err { OnErr result ((reply : Reply) × (noted : List Record)
         × AnswersNow (recorded manager.old) by event reply noted (recorded manager.new)) }
 {
-    if has_small_change(&event) {
-        return answer_small(alloc, manager, by, event, telling, replies, audit);
-    }
-    answer_planned(alloc, manager, by, event, telling, replies, audit)
-}
-
-// As `answer_event`, of an event with a small change.
-#[inline(never)]
-fn answer_small(
-    alloc: Global,
-    manager: &mut Manager,
-    by: By,
-    event: Event,
-    telling: Telling,
-    replies: &mut Vec<u8>,
-    audit: &mut Vec<u8>,
-) -> Result<(), AllocError>
-    requires { is_small event ≡ true }
-    ensures ok { OnOk result ((reply : Reply) × (noted : List Record)
-        × AnswersNow (recorded manager.old) by event reply noted (recorded manager.new)
-        × Told telling reply noted replies.old.items replies.new.items audit.old.items audit.new.items) }
-    ensures err { OnErr result ((reply : Reply) × (noted : List Record)
-        × AnswersNow (recorded manager.old) by event reply noted (recorded manager.new)) }
-{
-    let (reply, records) = step_small(manager, by, event);
-    let told = tell(alloc, telling, &reply, &records, replies, audit);
-    let_go(reply, records);
-    told
-}
-
-// As `answer_event`, of an event without a small change.
-#[inline(never)]
-fn answer_planned(
-    alloc: Global,
-    manager: &mut Manager,
-    by: By,
-    event: Event,
-    telling: Telling,
-    replies: &mut Vec<u8>,
-    audit: &mut Vec<u8>,
-) -> Result<(), AllocError>
-    ensures ok { OnOk result ((reply : Reply) × (noted : List Record)
-        × AnswersNow (recorded manager.old) by event reply noted (recorded manager.new)
-        × Told telling reply noted replies.old.items replies.new.items audit.old.items audit.new.items) }
-    ensures err { OnErr result ((reply : Reply) × (noted : List Record)
-        × AnswersNow (recorded manager.old) by event reply noted (recorded manager.new)) }
-{
-    let (reply, records) = step_planned(manager, by, event);
+    let (reply, records) = step(manager, by, event);
     let told = tell(alloc, telling, &reply, &records, replies, audit);
     let_go(reply, records);
     told
@@ -218,21 +170,12 @@ fn answer_look(
     told
 }
 
-// Makes an actor's event with a small change, at the actor's turn.
-fn step_small(manager: &mut Manager, by: By, event: Event) -> (Reply, Vec<Record>)
-    requires { is_small event ≡ true }
+// Makes an actor's event, at the actor's turn.
+fn step(manager: &mut Manager, by: By, event: Event) -> (Reply, Vec<Record>)
     ensures { AnswersNow (recorded manager.old) by event result.0 result.1.items (recorded manager.new) }
 {
     let turn = manager.turn(by);
-    manager.step_small(by, turn, event)
-}
-
-// Makes an actor's event without a small change, at the actor's turn.
-fn step_planned(manager: &mut Manager, by: By, event: Event) -> (Reply, Vec<Record>)
-    ensures { AnswersNow (recorded manager.old) by event result.0 result.1.items (recorded manager.new) }
-{
-    let turn = manager.turn(by);
-    manager.step_planned(by, turn, event)
+    manager.step(by, turn, event)
 }
 
 fn look(manager: &Manager, by: By, query: Query) -> (Reply, Vec<Record>)

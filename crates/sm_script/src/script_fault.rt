@@ -23,15 +23,20 @@ pub enum ScriptFault {
 // Writes why an opening was refused. Only a missing rule or a failed allocation refuses one.
 fn write_opening<W: fmt::Write>(refusal: &Refusal, f: &mut fmt::Formatter<W>) -> fmt::Result {
     match refusal {
-        Refusal::Denied(
-            Denial::Rule {
-                source,
-                target,
-                class,
-                perm,
-            },
-        ) => write!(f, "open denied {source} {target} {class} {perm}"),
+        Refusal::Denied(denial) => write_denial(denial.get(), f),
         Refusal::Memory => f.write_str("fault: no memory"),
+        _ => f.write_str("fault: the manager was not opened"),
+    }
+}
+
+fn write_denial<W: fmt::Write>(denial: &Denial, f: &mut fmt::Formatter<W>) -> fmt::Result {
+    match denial {
+        Denial::Rule {
+            source,
+            target,
+            class,
+            perm,
+        } => write!(f, "open denied {source} {target} {class} {perm}"),
         _ => f.write_str("fault: the manager was not opened"),
     }
 }

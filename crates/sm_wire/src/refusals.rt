@@ -13,7 +13,7 @@ pub fn push_refusal(out: &mut Vec<u8>, refusal: &Refusal) -> Result<(), AllocErr
     ensures { OnOk result (out.new.items ≡ out.old.items ++ refusal_text refusal.now) }
 {
     match refusal {
-        Refusal::Denied(denial) => push_denial(out, denial),
+        Refusal::Denied(denial) => push_denial(out, denial.get()),
         Refusal::Exception(exception) => out.extend_from_slice(exception_words(*exception)),
         Refusal::Failed(failure) => push_failure(out, *failure),
         Refusal::Dead => out.extend_from_slice(b"dead"),

@@ -4,25 +4,24 @@ ghost use Rattle.std.specs.Prelude.{◌≡◌, ◌&&◌, [], false, IfOk, IfSome
 ghost use Rattle.sm_history.specs.declared.query.Query.TheVariants.{Version};
 ghost use Rattle.sm_history.specs.declared.reply.Answer.TheVariants.{Version as VersionAnswer};
 ghost use Rattle.sm_history.specs.declared.reply.Reply.TheVariants.{Looked};
+ghost use Rattle.sm_history.specs.Histories.{effects_of};
 ghost use Rattle.sm_history.specs.Promises.{Looks};
 ghost use Rattle.sm_history.specs.Queries.{is_their_query, query_verdict};
 ghost use Rattle.sm_history.specs.Verdict.{is_there};
 ghost use Rattle.sm_history.specs.Records.{query_records};
-ghost use Rattle.sm_core.specs.Managed.{effects_in, look_leaves};
+ghost use Rattle.sm_core.specs.Managed.{look_leaves};
 
 use crate::manager::Manager;
-use crate::manager::replying::is_memory;
-use crate::query_tables::QueryTables;
+use crate::refusing::is_memory;
 use sm_history::{By, Query, Record, Reply};
 use std::alloc::AllocError;
-use std::snapshot::Snapshot;
 
 impl Manager {
     /// Answers a query, on the present history.
     pub fn look(&self, by: By, query: Query) -> Reply
         ensures { Looks self.now.book by query result }
     {
-        self.answered(by, &query).0
+        self.ledger.look(by, &query).0
     }
 
     /// As `look`, and returns the records of the query.
@@ -30,7 +29,7 @@ impl Manager {
         ensures looks { Looks self.now.book by query result.0 }
         ensures records { result.1.items ≡ look_leaves self.now.book by query result.0 }
     {
-        self.answered(by, &query)
+        self.ledger.look(by, &query)
     }
 
     /// Returns what a `version` of an actor is answered with: the version of the policy in force, and the number of
@@ -38,42 +37,21 @@ impl Manager {
     pub fn version_seen(&self, by: By) -> Option<(u64, u64)>
         ensures seen { IfSome result
             (λ v. Looked v.0 v.1 VersionAnswer ≡ query_verdict self.now.book.history by Version) }
-        ensures refused { IfNone result ((is_their_query by Version && is_there (effects_in self.now) by) ≡ false) }
+        ensures refused { IfNone result
+            ((is_their_query by Version && is_there (effects_of self.now.book.history) by) ≡ false) }
         ensures records { query_records self.now.book.history by Version ≡ [] }
     {
-        if let By::Manager = by {
-            return None;
-        }
-        self.state.principals.caller(by)?;
-        Some((self.state.principals.version, self.journal.history_length()))
+        self.ledger.version_seen(by)
     }
 
     /// Returns the records of a query. Returns an error if an allocation fails.
     pub fn look_records(&self, by: By, query: &Query) -> Result<Vec<Record>, AllocError>
         ensures { IfOk result (λ v. v.items ≡ query_records self.now.book.history by query.now) }
     {
-        let (reply, records) = self.answered(by, query);
+        let (reply, records) = self.ledger.look(by, query);
         if is_memory(&reply) {
             return Err(AllocError);
         }
         Ok(records)
-    }
-
-    /// Returns the answer to a query, and its records.
-    fn answered(&self, by: By, query: &Query) -> (Reply, Vec<Record>)
-        ensures looks { Looks self.now.book by query.now result.0 }
-        ensures records { result.1.items ≡ look_leaves self.now.book by query.now result.0 }
-    {
-        let journal = Snapshot::of(&self.journal);
-        let tables = QueryTables {
-            alloc: self.alloc,
-            places: self.places,
-            length: self.journal.history_length(),
-            principals: &self.state.principals,
-            services: self.state.names.services(),
-            journal: &journal,
-            next: &None,
-        };
-        tables.look_recorded(by, query)
     }
 }

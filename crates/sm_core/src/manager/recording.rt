@@ -4,9 +4,9 @@ ghost use Rattle.std.specs.Prelude.{◌≡◌, ◌≤◌, length, IfOk};
 ghost use Rattle.sm_audit.specs.declared.ring.TheConstants.{MOST_RECORDS};
 ghost use Rattle.sm_history.specs.Records.{records};
 
+use crate::draft::Draft;
 use crate::manager::Manager;
-use crate::manager::replying::is_wanted;
-use crate::notes::Notes;
+use crate::refusing::is_memory;
 use sm_history::{By, Event, Record};
 use std::alloc::AllocError;
 
@@ -24,14 +24,17 @@ impl Manager {
     pub fn step_records(&self, by: By, turn: u64, event: &Event) -> Result<Vec<Record>, AllocError>
         ensures { IfOk result (λ v. v.items ≡ records self.now.book.places self.now.book.history by turn event.now) }
     {
-        let mut notes = Notes::none(self.alloc);
-        match self.judge(by, turn, event, &mut notes) {
-            Ok(plan) => notes.and(plan.records),
-            Err(stop) => {
-                if is_wanted(&stop) {
+        let mut draft = Draft::new(self.alloc);
+        match self.ledger.judge(by, turn, event, &mut draft) {
+            Ok(_) => {
+                draft.records.append(&mut draft.told)?;
+                Ok(draft.records)
+            }
+            Err(reply) => {
+                if is_memory(&reply) {
                     return Err(AllocError);
                 }
-                Ok(notes.into_list())
+                Ok(draft.records)
             }
         }
     }

@@ -14,8 +14,7 @@ impl Manager {
     pub fn view(&self) -> Result<View, AllocError>
         ensures { IfOk result (λ v. v ≡ self.now.book) }
     {
-        let alloc = self.alloc;
-        View::of(alloc, self.places, &self.journal, &self.state, &self.turns)
+        self.ledger.view()
     }
 
     /// Returns the view after this event is committed. What the event doesn't change is shared with the last view,
@@ -25,8 +24,7 @@ impl Manager {
         requires last { last.now ≡ self.now.book }
         ensures { IfOk result (λ v. v ≡ extended self.now.book ready.now.entry) }
     {
-        // Reads a field, so that the invariant is known: see docs/PROOFS.md.
-        let _ = &self.places;
-        last.after(&self.journal, &self.turns, ready)
+        self.ledger
+            .view_after(&ready.entry, self.draft.effects.as_slice(), last)
     }
 }

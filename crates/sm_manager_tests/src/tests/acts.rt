@@ -249,7 +249,7 @@ pub fn step(
     turn: u64,
     act: Act,
 ) -> Seen {
-    seen_of(&manager.step(by, turn, event(rt, alloc, act)))
+    seen_of(&manager.step(by, turn, event(rt, alloc, act)).0)
 }
 
 /// Makes changes, each at its actor's turn, and checks what is seen of the replies.

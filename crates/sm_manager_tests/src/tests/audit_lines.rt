@@ -97,11 +97,13 @@ fn the_oldest_record_goes_first(rt: HostRuntime) {
     assert!(rt; none.is_empty());
     push_many(&rt, &mut ring, alloc, 1024);
     holds(&rt, &ring, alloc, (1024, 0, 1023));
-    let full = ring.all(alloc).ok().expect(&rt, "memory");
+    let mut full = ring.all(alloc).ok().expect(&rt, "memory");
     ring.push(app_barred(&rt, alloc, 1024));
     holds(&rt, &ring, alloc, (1024, 1, 1024));
-    ring.push_all(barred(&rt, alloc, &[1025, 1026]));
+    let mut more = barred(&rt, alloc, &[1025, 1026]);
+    ring.push_all(&mut more);
+    assert!(&rt; more.is_empty());
     holds(&rt, &ring, alloc, (1024, 3, 1026));
-    ring.push_all(full);
+    ring.push_all(&mut full);
     holds(&rt, &ring, alloc, (1024, 0, 1023));
 }

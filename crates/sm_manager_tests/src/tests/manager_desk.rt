@@ -49,7 +49,7 @@ impl ManagerDesk {
     // An actor's event, at the turn that the actor has.
     fn step(&mut self, by: By, event: Event) -> Reply {
         let turn = self.manager.turn(by);
-        self.manager.step(by, turn, event)
+        self.manager.step(by, turn, event).0
     }
 
     // Whose connection it is.

@@ -9,7 +9,7 @@ use std::process::Abort;
 /// Makes an actor's next change. Returns its notices, and the number of its audit records.
 fn noted(rt: &impl Abort, alloc: Global, manager: &mut Manager, by: By, act: Act) -> (Seen, usize) {
     let turn = manager.turn(by);
-    let (reply, records) = manager.step_recorded(by, turn, event(rt, alloc, act));
+    let (reply, records) = manager.step(by, turn, event(rt, alloc, act));
     (seen_of(&reply), records.len())
 }
 

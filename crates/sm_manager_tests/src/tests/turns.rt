@@ -157,7 +157,7 @@ fn add_would_leave(rt: &impl Abort, alloc: Global, manager: &Manager, lines: &[u
 
 /// An add by the application leaves these records.
 fn add_leaves(rt: &impl Abort, alloc: Global, manager: &mut Manager, lines: &[u8]) {
-    let (_, records) = manager.step_recorded(APPLICATION, 0, event(rt, alloc, Act::Add));
+    let (_, records) = manager.step(APPLICATION, 0, event(rt, alloc, Act::Add));
     are_told(rt, alloc, &records, lines);
 }
 

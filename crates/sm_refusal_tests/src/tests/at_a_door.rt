@@ -4,12 +4,13 @@ ghost use Rattle.std.specs.Prelude.{◌≡◌};
 ghost use Rattle.sm_core.specs.Opening.{opened};
 
 use super::events::activity;
-use super::manager::{is_memory, lists_activity, policy, process};
+use super::manager::{is_memory, lists_activity, prepared, process};
 use super::outcome::same;
 use sm_door::{Admin, Door, Naming, Seat, Session, UnnamedRegistry};
-use sm_history::{NoGate, Outcome, Record, Refusal, Reply};
-use sm_kinds::{Identity, Places, drop_fields};
+use sm_history::{Event, NoGate, Outcome, Record, Refusal, Reply};
+use sm_kinds::{Identity, Name, Places, drop_fields};
 use sm_policy::Prepared;
+use sm_samples::DEVICE_RULES;
 use std::alloc::Global;
 use std::marker::Brand;
 use std::process::Abort;
@@ -71,7 +72,7 @@ impl<'a, J: Naming, R: Wait + Abort> Caller<'a, J, R> {
 
     /// Installs a policy. One that comes back is installed at the second try.
     fn installs(&self, me: &mut Admin<J>) -> Option<()> {
-        let rules = policy(self.rt, self.alloc)?;
+        let rules = permissive(self.rt, self.alloc)?;
         if let Some(back) = self.refused(me, rules) {
             assert!(self.rt; self.refused(me, back).is_none());
         }
@@ -81,7 +82,7 @@ impl<'a, J: Naming, R: Wait + Abort> Caller<'a, J, R> {
     /// Installs a policy over a version that isn't in force any more. The policy comes back. `None` if an allocation
     /// failed.
     fn loses(&self, me: &mut Admin<J>) -> Option<()> {
-        let rules = policy(self.rt, self.alloc)?;
+        let rules = permissive(self.rt, self.alloc)?;
         let counts = rules.counts();
         match self.door.install(self.rt, me, 1, rules) {
             Err((Refusal::VersionMoved(2), back)) => {
@@ -133,6 +134,14 @@ impl<'a, J: Naming, R: Wait + Abort> Caller<'a, J, R> {
         }
     }
 
+    /// A watch that is done because its client is permissive comes with its record. `None` if an allocation failed.
+    fn watches(&self, me: &mut Session<J>) -> Option<()> {
+        let event = power(self.alloc)?;
+        let (reply, records) = self.door.submit_recorded(self.rt, me, event);
+        let is_watched = matches!(&reply, Reply::Done(Outcome::Watched(_)));
+        has_record(self.rt, is_watched, reply, records)
+    }
+
     /// An add that is denied comes with its record. `None` if an allocation failed.
     fn may_not_add(&self, me: &mut Session<J>) -> Option<()> {
         let event = activity(self.alloc)?;
@@ -155,10 +164,10 @@ impl<'a, J: Naming, R: Wait + Abort> Caller<'a, J, R> {
         Some(())
     }
 
-    /// There are no records. `None` if an allocation failed.
-    fn has_no_denials(&self, me: &mut Admin<J>) -> Option<()> {
+    /// There are so many records. `None` if an allocation failed.
+    fn has_denials(&self, me: &mut Admin<J>, wanted: usize) -> Option<()> {
         let records = self.door.denials(self.rt, me).ok()?;
-        assert!(self.rt; records.is_empty());
+        assert!(self.rt; records.len() == wanted);
         Some(())
     }
 
@@ -166,7 +175,7 @@ impl<'a, J: Naming, R: Wait + Abort> Caller<'a, J, R> {
     fn administrator(&self, me: &mut Admin<J>) -> Option<()> {
         self.installs(me)?;
         again!(self.rt; self.loses(me));
-        again!(self.rt; self.has_no_denials(me));
+        again!(self.rt; self.has_denials(me, 0));
         self.seals(me);
         Some(())
     }
@@ -175,7 +184,10 @@ impl<'a, J: Naming, R: Wait + Abort> Caller<'a, J, R> {
     fn server(&self, me: &mut Session<J>, admin: &mut Admin<J>) -> Option<()> {
         self.adds(me)?;
         again!(self.rt; lists_activity(self.rt, self.door.list(me, 15), 3));
-        self.administrator(admin)
+        self.administrator(admin)?;
+        again!(self.rt; self.watches(me));
+        again!(self.rt; self.has_denials(admin, 1));
+        Some(())
     }
 
     /// The calls while a server has a session.
@@ -202,9 +214,37 @@ fn is_added(rt: &impl Abort, reply: Reply) -> bool {
     false
 }
 
+/// A watch of a name that no rule lets a server find.
+fn power(alloc: Global) -> Option<Event> {
+    Some(Event::Watch {
+        name: Name::new(alloc, b"power").ok()?,
+        object: 7,
+    })
+}
+
+/// The rules of a device, under which servers are permissive.
+fn permissive(rt: &impl Abort, alloc: Global) -> Option<Prepared> {
+    let mut rules = Vec::from_slice(alloc, DEVICE_RULES).ok()?;
+    rules
+        .extend_from_slice(b"permissive system_server;\n")
+        .ok()?;
+    prepared(rt, alloc, rules.as_slice())
+}
+
 /// A request was denied, with its record. `None` if an allocation failed, and then there is no record.
 fn is_denied(rt: &impl Abort, reply: Reply, records: Vec<Record>) -> Option<()> {
-    if matches!(&reply, Reply::Refused(Refusal::Denied(_))) {
+    let is_denied = matches!(&reply, Reply::Refused(Refusal::Denied(_)));
+    has_record(rt, is_denied, reply, records)
+}
+
+/// An answered request has one record. `None` if an allocation failed, and then there is none.
+fn has_record(
+    rt: &impl Abort,
+    is_answered: bool,
+    reply: Reply,
+    records: Vec<Record>,
+) -> Option<()> {
+    if is_answered {
         assert!(rt; records.len() == 1);
         return Some(());
     }
@@ -244,7 +284,7 @@ fn opens<J: Naming, R: Wait + Abort>(
 
 fn door<R: Wait + Abort>(rt: &R, alloc: Global) -> Option<()> {
     let who = process(alloc, b"u:r:servicemanager:s0")?;
-    let rules = policy(rt, alloc)?;
+    let rules = permissive(rt, alloc)?;
     let places = Places::new(1000).expect(rt, "places");
     opens::<Brand, R>(rt, alloc, UnnamedRegistry::new(), who, rules, places)
 }

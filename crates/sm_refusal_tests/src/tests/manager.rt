@@ -203,7 +203,7 @@ fn changes(
 ) -> Option<()> {
     let event = event_of(rt, alloc, step)?;
     let turn = manager.turn(by);
-    if is_done(rt, manager.step(by, turn, event)) {
+    if is_done(rt, manager.step(by, turn, event).0) {
         same(rt, manager.turn(by), turn.saturating_add(1));
         Some(())
     } else {
@@ -256,7 +256,7 @@ fn is_recorded(rt: &impl Abort, records: Option<Vec<Record>>) -> Option<()> {
 fn is_denied(rt: &impl Abort, alloc: Global, manager: &mut Manager) -> Option<()> {
     let event = denied(alloc)?;
     let turn = manager.turn(SERVER);
-    if has_no_memory(manager.step(SERVER, turn, event)) {
+    if has_no_memory(manager.step(SERVER, turn, event).0) {
         return None;
     }
     Some(())
@@ -299,13 +299,13 @@ fn shows(rt: &impl Abort, alloc: Global, manager: &mut Manager, last: &View) -> 
     match manager.ready(SERVER, turn, event) {
         Ok(ready) => match manager.view_after(&ready, last) {
             Ok(view) => {
-                is_added(rt, manager.commit(ready));
+                is_added(rt, manager.commit(ready).0);
                 view_lists(rt, &view, 4);
                 Some(())
             }
             Err(_) => None,
         },
-        Err(reply) => {
+        Err((reply, _)) => {
             assert!(rt; has_no_memory(reply));
             None
         }

@@ -2,7 +2,7 @@
 
 use sm_command::{Ending, unknown_line};
 use sm_engine::{Fault, ServeFault};
-use sm_history::{Denial, Refusal};
+use sm_history::{Denial, Refusal, Shared};
 use sm_kinds::{Class, Name, Perms, Word};
 use sm_policy::PolicyFault;
 use sm_questions::Unknown;
@@ -88,6 +88,7 @@ fn the_text_of_a_script_fault_is_its_line(rt: HostRuntime) -> Result<(), Fail> {
         class: Class::Binder,
         perm: Perms::SET_CONTEXT_MGR,
     };
+    let missing = Shared::new(alloc, missing)?;
     prints_its_line(
         &rt,
         alloc,

@@ -128,7 +128,7 @@ fn lines_and_texts_too_long(rt: HostRuntime) {
 fn reason(fault: &ScriptFault) -> &'static str {
     match fault {
         ScriptFault::Policy(PolicyFault::UndeclaredLabel(3)) => "the label at line 3",
-        ScriptFault::Opening(Refusal::Denied(denial)) if is_the_managers(denial) => {
+        ScriptFault::Opening(Refusal::Denied(denial)) if is_the_managers(denial.get()) => {
             "no set_context_mgr"
         }
         _ => "another fault",

@@ -1,6 +1,6 @@
 //! Requests as lines, and the lines of replies.
 
-use sm_history::{Denial, Event, Outcome, Query, Refusal, Reply};
+use sm_history::{Denial, Event, Outcome, Query, Refusal, Reply, Shared};
 use sm_kinds::{ClientId, Identity, Name, ObjRef, push_access, push_numbered};
 use sm_wire::*;
 use std::alloc::{AllocError, Global};
@@ -377,10 +377,12 @@ fn answered(rt: &impl Abort, alloc: Global, line: &[u8], reply: &Reply) -> Vec<u
 }
 
 #[test]
-fn replies_to_requests(rt: HostRuntime) {
+fn replies_to_requests(rt: HostRuntime) -> Result<(), Fail> {
+    let alloc = rt.alloc();
     let granted = Reply::Done(Outcome::Granted(3));
     let died = Reply::Done(Outcome::Died);
-    let isolated = Reply::Refused(Refusal::Denied(Denial::Isolated(99001)));
+    let denial = Shared::new(alloc, Denial::Isolated(99001))?;
+    let isolated = Reply::Refused(Refusal::Denied(denial));
     // A get hides that the service isn't for isolated processes.
     let replies = [
         ("2 get activity", &granted, "handle 3\n"),
@@ -393,9 +395,10 @@ fn replies_to_requests(rt: HostRuntime) {
         ("2 bye", &died, "bye\n"),
     ];
     for (line, reply, wanted) in replies {
-        let words = answered(&rt, rt.alloc(), line.as_bytes(), reply);
+        let words = answered(&rt, alloc, line.as_bytes(), reply);
         assert_eq!(rt; words.as_slice(), wanted.as_bytes());
     }
+    Ok(())
 }
 
 // Adds an item in words, on a line of its own.

@@ -1,6 +1,6 @@
 //! The text of a refusal is its reply line.
 
-use sm_history::{Denial, Exception, Failure, Refusal, Reply};
+use sm_history::{Denial, Exception, Failure, Refusal, Reply, Shared};
 use sm_kinds::{Class, Name, Perms};
 use sm_wire::{Telling, reply_line};
 use std::alloc::{AllocError, Global};
@@ -28,13 +28,18 @@ const FAILURES: [Failure; 5] = [
     Failure::TargetFull,
 ];
 
+fn denied(alloc: Global, denial: Denial) -> Result<Refusal, AllocError> {
+    Ok(Refusal::Denied(Shared::new(alloc, denial)?))
+}
+
 fn denial(alloc: Global, class: Class, perm: Perms) -> Result<Refusal, AllocError> {
-    Ok(Refusal::Denied(Denial::Rule {
+    let missing = Denial::Rule {
         source: Name::new(alloc, b"untrusted_app")?,
         target: Name::new(alloc, b"system_server")?,
         class,
         perm,
-    }))
+    };
+    denied(alloc, missing)
 }
 
 // Asserts that a refusal's text is its reply line without the newline.
@@ -67,8 +72,8 @@ fn the_text_of_a_refusal_is_its_line(rt: HostRuntime) -> Result<(), Fail> {
 #[test]
 fn the_text_of_a_denial_is_its_line(rt: HostRuntime) -> Result<(), Fail> {
     let alloc = rt.alloc();
-    prints_its_line(&rt, alloc, Refusal::Denied(Denial::App(10007)))?;
-    prints_its_line(&rt, alloc, Refusal::Denied(Denial::Isolated(99001)))?;
+    prints_its_line(&rt, alloc, denied(alloc, Denial::App(10007))?)?;
+    prints_its_line(&rt, alloc, denied(alloc, Denial::Isolated(99001))?)?;
     for perm in [Perms::ADD, Perms::FIND, Perms::LIST] {
         prints_its_line(&rt, alloc, denial(alloc, Class::ServiceManager, perm)?)?;
     }

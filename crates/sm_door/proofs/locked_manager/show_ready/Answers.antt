@@ -9,4 +9,4 @@ publish-requires g c =
     let b = c.args.manager.now.book in
     subst (λ (z : Book × Book). Begins z.0 z.1)
     (λ i. (sym c.in_ok-view.ensures i, sym c.requires.shown i)) (book_before b c.args.ready.now.entry
-    (c.requires.ready.done, c.requires.ready.sound))
+    (c.requires.ready.change.done, c.requires.ready.change.sound))

@@ -1,31 +1,8 @@
-use Rattle.std.proofs.Common.{◌≡◌, ap, sym, subst, ◌∙◌}
-use Rattle.sm_history.specs.declared.by.By.{By}
-use Rattle.sm_history.specs.Histories.{turn_of}
-use Rattle.sm_history.specs.Replaying.{ComesAbout}
-use Rattle.sm_history.specs.Segments.{admins_of, sealed}
-use Rattle.sm_core.specs.Counting.{counted_admins, change_count}
-use Rattle.sm_core.specs.Managed.{Managed}
-use Rattle.sm_core.specs.Journals.{Written}
-use Rattle.sm_core.proofs.KeptSealed.{kept_sealed}
+use Rattle.sm_core.proofs.KeptSealed.{truth_sealed}
 use Rattle.sm_core.proofs.manager.Manager.commit_seal.Goals as goal
 
 pub invariant_of-self : goal.invariant_of-self
 invariant_of-self c =
-    let some = rw (← c.self.view_is) at c.requires.some in
-    let opens : c.args.ready.journal.history ≡ sealed c.self.inside.journal.history =
-    subst (λ (m : Managed). c.args.ready.journal.history ≡ sealed m.book.history) (sym c.self.view_is)
-    c.requires.opens in
-    let turns : (by : By) → change_count c.args.ready.turns by ≡ turn_of (sealed c.self.inside.journal.history) by =
-    subst (λ (m : Managed). (by : By) → change_count c.args.ready.turns by ≡ turn_of (sealed m.book.history) by)
-    (sym c.self.view_is) c.requires.turns in
-    let admins : counted_admins c.args.ready.turns ≡ admins_of (sealed c.self.inside.journal.history) =
-    subst (λ (m : Managed). counted_admins c.args.ready.turns ≡ admins_of (sealed m.book.history)) (sym c.self.view_is)
-    c.requires.admins in
-    kept_sealed c.self.inside.places c.self.inside.journal.history c.replace-closed.new.dest.history
-    c.self.inside.turns c.args.ready.turns c.self.inside.state c.self.inside.ring c.self.invariant some
-    (ap (λ (j : Written). j.history) c.replace-closed.ensures.after ∙ opens) turns admins
-
-pub closed-requires : goal.closed-requires
-closed-requires c =
-    subst ComesAbout (sym (ap (λ (j : Written). j.history) c.replace-closed.ensures.value))
-    (c.self.inside.places, c.self.invariant.lawful)
+    let b = c.self.inside.ledger.book in
+    rw (c.close.ensures.places, c.close.ensures.history)
+    (truth_sealed b.places b.history c.self.inside.ring c.self.invariant)

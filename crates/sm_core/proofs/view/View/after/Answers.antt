@@ -14,7 +14,7 @@ overflow_add-result c = let v = viewed_length _ _ _ _ _ c.self.invariant in omeg
 
 pub overflow_add-result-2 : goal.overflow_add-result-2
 overflow_add-result-2 c =
-    let by = c.args.ready.now.entry.by in
+    let by = c.args.entry.now.by in
     let few : change_count c.args.turns.now by < GREATEST =
     rw (c.requires.turns by, ← c.self.view_is) (viewed_turns _ _ _ _ _ by c.self.invariant) in
     let is = c.of.ensures in
@@ -24,7 +24,7 @@ pub invariant_of-result : goal.invariant_of-result
 invariant_of-result c =
     let i = c.self.inside in
     let h = c.args.self.now.history in
-    let by = c.args.ready.now.entry.by in
+    let by = c.args.entry.now.by in
     let turns = c.args.turns.now in
     let changes = change_count turns in
     let places : i.places ≡ c.args.self.now.places = ap (λ (b : Book). b.places) c.self.view_is in
@@ -33,9 +33,8 @@ invariant_of-result c =
     let row : TurnRow = record { by = by; turns = c.of.result + 1 } in
     let before = rw (ap (λ (b : Book). b.history) c.self.view_is) at c.self.invariant in
     rw (c.of-2.ensures, c.requires.history, c.of-3.ensures)
-    (viewed_more i.places h turns c.args.ready.now i.length (arc_value i.tables) tables i.newest row c.requires.turns
-    (rw (← places) at c.requires.coming) before (rw c.as_slice-effects.ensures at next.principals)
-    (rw c.as_slice-effects.ensures at next.services)
+    (viewed_more i.places h turns c.args.entry.now c.args.effects.now i.length (arc_value i.tables) tables i.newest row c.requires.turns
+    (rw (← places) at c.requires.coming) before next.principals next.services
     (λ b. counted_first tables.turn_counts row b (changes_with turns by)
     (λ other. next.counts b other
     ∙ ap (λ (t : Bool). if t then changes b + 1 else changes b) (sym other))

@@ -1,9 +1,0 @@
-use Rattle.std.proofs.Common.{ap, sym, ◌∙◌, length, ℕ}
-use Rattle.sm_history.specs.Histories.{effects_of}
-use Rattle.sm_core.proofs.CallEffects.{numbers_many}
-use Rattle.sm_core.proofs.manager.Manager.plan_call.Goals as goal
-
-pub gives-requires : goal.gives-requires
-gives-requires c =
-    sym (ap (length {A = ℕ}) (c.as_slice.ensures.value ∙ c.numbers-numbers.ensures)
-    ∙ numbers_many (effects_of c.args.self.now.book.history) c.args.target.owner.0 c.args.nodes.now)

@@ -1,0 +1,102 @@
+//! The checks of allow rules that events make.
+
+ghost use Rattle.std.specs.Prelude.{◌≡◌, None, Some};
+ghost use Rattle.sm_kinds.specs.declared.class.Class.TheVariants.{Binder, ServiceManager};
+ghost use Rattle.sm_history.specs.Clients.{manager_at, label_at};
+ghost use Rattle.sm_core.specs.Judging.{IsRuled};
+ghost use Rattle.sm_core.specs.Tables.{process_at, IsLabel};
+ghost use Rattle.sm_core.specs.Managed.{effects_in, moment_in};
+
+use crate::access::Access;
+use crate::ledger::Ledger;
+use crate::process::Process;
+use crate::refusing::Checked;
+use sm_history::Record;
+use sm_kinds::{Class, Name, Perms};
+use sm_policy::Label;
+
+impl Ledger {
+    /// Returns what checks read now.
+    #[inline(always)]
+    pub fn access(&self) -> Access<'_>
+        ensures { result ≡ moment_in self.now }
+    {
+        Access {
+            alloc: self.alloc,
+            length: self.journal.history_length(),
+            principals: &self.state.principals,
+        }
+    }
+
+    /// Checks a permission of Binder from a process to the manager.
+    #[inline(always)]
+    pub fn check_to_manager(
+        &self,
+        who: &Process,
+        perm: Perms,
+        notes: &mut Vec<Record>,
+    ) -> Checked<()>
+        requires { who.now ≡ process_at (effects_in self.now) who.now.who }
+        ensures { IsRuled (moment_in self.now) notes.old.items notes.new.items Binder perm who.now.who
+            (manager_at (effects_in self.now)).context None result }
+    {
+        let manager = &self.state.principals.manager;
+        self.access()
+            .to_process(who, manager, Class::Binder, perm, notes)
+    }
+
+    /// Checks a permission of Binder from the manager to a process.
+    #[inline(always)]
+    pub fn check_from_manager(
+        &self,
+        who: &Process,
+        perm: Perms,
+        notes: &mut Vec<Record>,
+    ) -> Checked<()>
+        requires { who.now ≡ process_at (effects_in self.now) who.now.who }
+        ensures { IsRuled (moment_in self.now) notes.old.items notes.new.items Binder perm
+            (manager_at (effects_in self.now)) who.now.who.context None result }
+    {
+        let manager = &self.state.principals.manager;
+        self.access()
+            .to_process(manager, who, Class::Binder, perm, notes)
+    }
+
+    /// Checks a permission of the service manager from a process to the label of a name.
+    #[inline(always)]
+    pub fn check_to_label(
+        &self,
+        who: &Process,
+        name: &Name,
+        perm: Perms,
+        notes: &mut Vec<Record>,
+    ) -> Checked<()>
+        requires { who.now ≡ process_at (effects_in self.now) who.now.who }
+        ensures { IsRuled (moment_in self.now) notes.old.items notes.new.items ServiceManager perm who.now.who
+            (label_at (effects_in self.now) name.now) (Some name.now) result }
+    {
+        let label = self.state.principals.policy.labelled(name.bytes());
+        self.check_to_known_label(who, name, label, perm, notes)
+    }
+
+    /// As `check_to_label`, with the label of the name.
+    #[inline(always)]
+    pub fn check_to_known_label(
+        &self,
+        who: &Process,
+        name: &Name,
+        label: Label<'_>,
+        perm: Perms,
+        notes: &mut Vec<Record>,
+    ) -> Checked<()>
+        requires who { who.now ≡ process_at (effects_in self.now) who.now.who }
+        requires label { IsLabel (effects_in self.now) name.now label }
+        ensures { IsRuled (moment_in self.now) notes.old.items notes.new.items ServiceManager perm who.now.who
+            (label_at (effects_in self.now) name.now) (Some name.now) result }
+    {
+        let index = Some(label.index);
+        let class = Class::ServiceManager;
+        self.access()
+            .needs(who, label.context, index, Some(name), class, perm, notes)
+    }
+}

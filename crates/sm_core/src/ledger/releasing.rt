@@ -1,0 +1,29 @@
+//! Releases.
+
+ghost use Rattle.std.specs.Prelude.{◌≡◌, true};
+ghost use Rattle.sm_history.specs.declared.event.Event.TheVariants.{Release};
+ghost use Rattle.sm_history.specs.Clients.{is_live};
+ghost use Rattle.sm_core.specs.Judging.{IsBlank, Judged};
+ghost use Rattle.sm_core.specs.Managed.{effects_in};
+
+use crate::draft::Draft;
+use crate::ledger::Ledger;
+use crate::refusing::{Checked, failed};
+use sm_history::{Effect, Failure, Outcome};
+use sm_kinds::ObjRef;
+
+impl Ledger {
+    /// Judges a release of one grant of a handle. The last release frees the number.
+    #[inline(never)]
+    pub fn judge_release(&self, client: u32, handle: u32, draft: &mut Draft) -> Checked<Outcome>
+        requires live { is_live (effects_in self.now) client ≡ true }
+        requires blank { IsBlank draft.old }
+        ensures { Judged self.now.book.history draft.old draft.new client (Release handle) result }
+    {
+        let Some(node) = self.resolved(client, ObjRef::Handle(handle)) else {
+            return Err(failed(Failure::BadHandle));
+        };
+        draft.effects.push(Effect::Releases { client, node })?;
+        Ok(Outcome::Released)
+    }
+}
