@@ -1,11 +1,13 @@
 """Requests of administrators."""
 
+import contextlib
 import os
 import socket
 import subprocess
+import time
 from concurrent.futures import ThreadPoolExecutor
 
-from operating.servers import OTHER_HELLO, check, expect, room, served, talk
+from operating.servers import LIMIT, MARGIN, OTHER_HELLO, check, expect, room, served, talk
 from talking import APPLICATION, BROKEN, PATIENCE
 
 
@@ -37,6 +39,10 @@ def requests_of_administrators(program):
         administer(program, ["--admin", server.folder / "none", "version"], [1, "", missing])
         for words in ["version"], ["reload", rules, labels]:
             administer(program, ["--admin", server.clients, *words], [1, "malformed\n", ""])
+        words = [program, "admin", "--admin", server.admins, "version"]
+        with open("/dev/full", "w") as full:
+            ended = subprocess.run(words, stdout=full, stderr=subprocess.PIPE, text=True, timeout=PATIENCE)
+        expect([ended.returncode, ended.stderr], [1, "fault: a write failed\n"], "on a full disk it ends with")
     unknown = "fault: the administrators' socket isn't given, by --admin or SVCMGR_ADMIN\n"
     administer(program, ["version"], [2, "", unknown])
 
@@ -47,6 +53,28 @@ def administer(program, words, ending, variables=None):
     words = [program, "admin", *words]
     ended = subprocess.run(words, capture_output=True, text=True, timeout=PATIENCE, env=environment)
     expect([ended.returncode, ended.stdout, ended.stderr], ending, f"{words[1:]} ends with")
+
+
+@check
+def administrator_who_never_pauses(program):
+    """Its turn ends some ten seconds after another one has come."""
+    with ThreadPoolExecutor(1) as pool, served(program) as server, server.admin() as busy:
+        answered = pool.submit(versions_until_the_end, busy)
+        with server.admin() as other:
+            began = time.monotonic()
+            talk(other, ("version", "version 1 1"))
+            seconds = time.monotonic() - began
+        expect(seconds <= LIMIT + MARGIN, True, f"it waited {seconds} seconds")
+        expect(answered.result() > 0, True, "the first one was answered")
+
+
+def versions_until_the_end(admin):
+    """Asks for the version without a pause, until the connection ends. How often it was answered."""
+    number = 0
+    with contextlib.suppress(OSError):
+        while admin.ask("version") == "version 1 1":
+            number += 1
+    return number
 
 
 @check

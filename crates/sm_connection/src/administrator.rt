@@ -104,7 +104,7 @@ impl<'a, J: Naming, G: Gate + Drop, H: Supervisor, R: Wait> Administrator<'a, J,
     {
         self.monitor.begin_seal(self.rt);
         let reply = self.close_segment(admin);
-        self.monitor.end_seal(self.rt);
+        self.monitor.keep_reserve(self.rt);
         reply
     }
 

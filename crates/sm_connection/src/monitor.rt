@@ -138,7 +138,7 @@ impl<'a, H: Supervisor> Monitor<'a, H> {
             || self.gauge.memory.load(Ordering::SeqCst) == SHORT
     }
 
-    /// Prepares a seal, which `end_seal` ends: if an allocation failed since the last one, the reserve is freed for it.
+    /// Prepares a seal, which `keep_reserve` ends: if an allocation failed since the last one, the reserve is freed for it.
     pub fn begin_seal<R: Wait>(&self, rt: &R) {
         if self.gauge.memory.load(Ordering::SeqCst) != ENOUGH {
             self.gauge.memory.store(TRIED, Ordering::SeqCst);
@@ -153,8 +153,8 @@ impl<'a, H: Supervisor> Monitor<'a, H> {
         }
     }
 
-    /// Ends a seal, whether it was made or not: the reserve is kept again, if there is memory for it.
-    pub fn end_seal<R: Wait>(&self, rt: &R) {
+    /// Fills the reserve again after a seal, whether it was made or not, as far as there is memory.
+    pub fn keep_reserve<R: Wait>(&self, rt: &R) {
         self.gauge.reserve.refill(rt);
     }
 

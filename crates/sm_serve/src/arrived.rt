@@ -120,7 +120,7 @@ impl Guest {
         G: Gate + Drop,
         A: Entrance,
         H: Supervisor,
-        R: Wait,
+        R: Wait + Clock,
     >(
         self,
         rt: &R,

@@ -23,10 +23,11 @@ use std::alloc::Global;
 use std::io::{Read, Write};
 use std::rt::Clock;
 use std::sync::Wait;
+use std::time::Instant;
 
 /// Serves a client's connection at a worker's seat, and adds it to the worker's account. After each change the journal
-/// is sealed if it is due; an answer to a read never waits for that. Returns the account with the seat, or with the session of a client that couldn't die, and both
-/// ends of the connection. If the time can't be read or limited, nothing is served.
+/// is sealed if it is due; an answer to a read never waits for that. Returns the account with the seat, or with the session of a
+/// client that couldn't die, and both ends of the connection. If the time can't be read or limited, nothing is served.
 pub fn attend_client<
     J: Naming,
     K: Chronicle,
@@ -129,15 +130,16 @@ fn note_end<H: Supervisor>(monitor: &Monitor<H>, ended: Result<(), Fault>) {
     }
 }
 
-/// Serves an administrator's connection, which may take `seconds` for each line and each reply, and less for a line if
-/// another one waits in the lobby, and adds it to the account. After each change the journal is sealed if it is due.
+/// Serves an administrator's connection, which may take `seconds` for each line and each reply, and adds it to the
+/// account. While another one waits in the lobby, it has less time for a line, and a turn of some seconds in all. After
+/// each change the journal is sealed if it is due. If the time can't be read or limited, nothing is served.
 pub fn attend_administrator<
     J: Naming,
     K: Chronicle,
     G: Gate + Drop,
     A: Entrance,
     H: Supervisor,
-    R: Wait,
+    R: Wait + Clock,
     I: Read + Limited,
     O: Write + Limited,
 >(
@@ -159,7 +161,10 @@ pub fn attend_administrator<
     if limit_administrator(seconds, &input, &output).is_err() {
         return (account, input, output);
     }
-    let visitor = Visitor::new(input, lobby, turned, seconds);
+    let Ok(now) = Instant::now(rt) else {
+        return (account, input, output);
+    };
+    let visitor = Visitor::new(rt, input, lobby, turned, seconds, now);
     let mut reader = Counted::new(Uninterrupted::new(visitor));
     let mut writer = Counted::new(Uninterrupted::new(output));
     let (account, _, ended) = serve_administrator(

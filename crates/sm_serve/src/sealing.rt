@@ -6,7 +6,8 @@ use sm_door::{Door, Naming};
 use sm_history::{Gate, Refusal};
 use std::sync::Wait;
 
-/// Seals the open segment if that is due, and drops it. If an allocation fails, a later answer tries again.
+/// Seals the open segment if that is due, and drops it. If an allocation fails, a later answer tries again. Otherwise
+/// fills the reserve again, of which a seal may have left a part missing.
 pub fn seal_if_due<J: Naming, G: Gate + Drop, H: Supervisor, R: Wait>(
     rt: &R,
     door: &Door<J, G>,
@@ -15,6 +16,8 @@ pub fn seal_if_due<J: Naming, G: Gate + Drop, H: Supervisor, R: Wait>(
 ) {
     if monitor.is_due() {
         seal(rt, door, sealer, monitor);
+    } else {
+        monitor.keep_reserve(rt);
     }
 }
 
@@ -38,5 +41,5 @@ fn seal<J: Naming, G: Gate + Drop, H: Supervisor, R: Wait>(
         Err(Refusal::Memory) => monitor.fail_to_seal(),
         Err(_other) => {}
     }
-    monitor.end_seal(rt);
+    monitor.keep_reserve(rt);
 }

@@ -63,7 +63,7 @@ impl ServerLog {
     pub fn append_records<R: Wait>(&self, rt: &R, records: &[Record]) {
         match lines_of(self.alloc, records) {
             Ok(lines) => self.append(rt, Level::Audit, lines),
-            Err(_) => self.lose(records.len() as u64),
+            Err(_) => self.miss(rt, records.len() as u64),
         }
     }
 
@@ -71,8 +71,17 @@ impl ServerLog {
     pub fn append<R: Wait>(&self, rt: &R, level: Level, lines: LogLines) {
         let count = lines.count();
         if !self.passes(rt, LogEntry { level, lines }) {
-            self.lose(count);
+            self.miss(rt, count);
         }
+    }
+
+    // Counts lines that found no room or no memory, and wakes the writer, which tells of them.
+    fn miss<R: Wait>(&self, rt: &R, lines: u64) {
+        self.lose(lines);
+        let level = Level::Warning;
+        let lines = LogLines::Fixed(b"");
+        // If it finds no room, lines wait for the writer.
+        let _ = self.to.try_send(rt, Some(LogEntry { level, lines }));
     }
 
     // Passes these lines to the writer. Returns whether there was room.
@@ -88,10 +97,10 @@ impl ServerLog {
         is_passed
     }
 
-    // Takes room for lines of this capacity. Returns whether there is.
+    // Takes room for lines of this capacity. Returns whether there is: lines of any capacity have it if none wait.
     fn has_room(&self, bytes: u64) -> bool {
         let before = self.waiting.fetch_add(bytes, Ordering::SeqCst);
-        if before.saturating_add(bytes) <= WAITING_BYTES {
+        if before == 0 || before.saturating_add(bytes) <= WAITING_BYTES {
             return true;
         }
         self.make_room(bytes);

@@ -56,7 +56,11 @@ fn tell(rt: &HostRuntime, answer: Result<Vec<u8>, Ending<'_>>) -> ExitCode {
     };
     match rt.stdout().write_all(&answer) {
         Ok(()) if is_granted(&answer) => ExitCode::SUCCESS,
-        _ => ExitCode::FAILURE,
+        Ok(()) => ExitCode::FAILURE,
+        Err(_) => {
+            let _ = rt.stderr().write_all(b"fault: a write failed\n");
+            ExitCode::FAILURE
+        }
     }
 }
 
