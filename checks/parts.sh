@@ -6,7 +6,7 @@ passed=0 failed=0 skipped=0
 tools=(python3 git cc) selinux_tools=(checkpolicy sesearch seinfo sediff)
 
 # What some checks are left out without.
-further_tools=(valgrind mandoc lintian)
+further_tools=(valgrind mandoc systemd-analyze systemd-nspawn lintian)
 
 room="$(mktemp -d)"
 trap 'rm -rf "$room"' EXIT
