@@ -9,14 +9,16 @@ _svcmgr() {
         label) options="--help" ;;
         explain) options="--name --help" ;;
         access) options="--source --target --name --class --perm --help" ;;
+        rules) options="--kind --source --target --name --class --perm --help" ;;
         diff) options="--help" ;;
         admin) options="--admin --help" ;;
     esac
     # The words for this place, if files don't fit.
     case "$COMP_CWORD $command $before" in
-        "1 "*) words="run check serve label explain access diff admin --help --version" ;;
-        *" access --class") words="service_manager binder" ;;
-        *" access --perm") words="add find list impersonate call set_context_mgr transfer" ;;
+        "1 "*) words="run check serve label explain access rules diff admin --help --version" ;;
+        *" rules --kind") words="allow neverallow dontaudit" ;;
+        *" access --class" | *" rules --class") words="service_manager binder" ;;
+        *" access --perm" | *" rules --perm") words="add find list impersonate call set_context_mgr transfer" ;;
         "2 admin admin") words="version denials seal reload explain" ;;
         "4 admin "*) [ "${COMP_WORDS[2]}" = --admin ] && words="version denials seal reload explain" ;;
     esac

@@ -34,8 +34,9 @@ def command_of(question):
     options, files = [], FILES[:2]
     if command == "explain":
         options, words = ["--name"] if words[0] else [], words[1:]
-    elif command == "access":
-        for option, word in zip(("--source", "--target", "--name", "--class", "--perm"), words):
+    elif command in ("access", "rules"):
+        names = ["--kind"] * (command == "rules") + ["--source", "--target", "--name", "--class", "--perm"]
+        for option, word in zip(names, words):
             options += [option, word] if word is not None else []
         words = []
     elif command == "diff":
@@ -54,7 +55,8 @@ def commands(case):
         (["check", "--all", "--show", *FILES[:2]], "", lambda model: model.asks("check", *files, FILES[:2], True)),
     ]
     for question in case.questions:
-        texts = (*files, case.new_rules, case.new_contexts, FILES) if question[0] == "diff" else files
+        more = {"diff": (case.new_rules, case.new_contexts, FILES), "rules": FILES[:1]}
+        texts = (*files, *more.get(question[0], ()))
 
         def answer(model, question=question, texts=texts):
             return model.asks(question[0], *texts, *question[1:])

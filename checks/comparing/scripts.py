@@ -14,6 +14,8 @@ from .policies import CLASS_WORDS, CLIENT_TYPES, NAMES, PERM_WORDS, PERMS_OF, TY
 UIDS = {"server": [1000, 1000, 100001000], "app": [10007, 1000, 10000, 9999], "iso": [99001, 90000, 1000, 99999]}
 ODD_NAMES = ["%61", "%6120", "%", "*", "a:b", "a" * 127, "a" * 128, "%00ff", "%ZZ", "%6", "a%"]
 
+RULE_KINDS = [None, None, None, "allow", "allow", "neverallow", "dontaudit", "dontaudit", "auditallow"]
+
 ODD_LINES = ["", " ", "1", "1 ", "1 take ", "1  take", "01 take", "1 frob", "hello 1 1", "4294967296 take", "seal now"]
 ODD_LINES += ["denials ", "reload 1 2", "reload 1 4294967296 0", "explain 1 2 3 4", "1 add a o1 2 8", "\xff\x00", "#"]
 ODD_LINES += [f"1 call 1 -{' o1' * 17}", f"1 call 1 {'00' * 1025}", "1 list 4294967296", "1 take\r"]
@@ -231,7 +233,8 @@ class Drawing(PolicyDrawing):
         if kind < 0.8:
             given = [word if self.is_so(0.3) else None for word in words]
             name = self.one([*NAMES, "*"]) if given[1] is None and self.is_so(0.3) else None
-            return ("access", given[0], given[1], name, given[2], given[3])
+            left = given[0], given[1], name, given[2], given[3]
+            return ("access", *left) if kind < 0.65 else ("rules", self.one(RULE_KINDS), *left)
         return ("diff",)
 
     # Cases.

@@ -5,7 +5,7 @@ Each gives what it writes to standard output and to standard error, and its stat
 import re
 from itertools import product
 
-from .policies import CLASSES, MOST_BYTES, Policy, Refused
+from .policies import CLASSES, MOST_BYTES, RULES, Policy, Refused
 
 ACCESSES = [(kind, perm) for kind, perms in CLASSES for perm in perms]
 
@@ -73,6 +73,11 @@ def asked(question):
     return answer
 
 
+def known_kind(rule_kind):
+    if rule_kind is not None and rule_kind not in RULES:
+        raise Unknown(f"kind {rule_kind}")
+
+
 def known(policy, source, target, kind, perm):
     """Looks up the words that are given, in this order."""
     for what, word, names in (
@@ -121,6 +126,23 @@ def access(kind, rules, contexts, source=None, target=None, name=None, class_=No
             line = policy.line_of(*each)
             found.append(f"{' '.join(each)} {'permissive' if line is None else line}")
     return lines(found), "", 0
+
+
+@asked
+def rules(kind, rules, contexts, path, rule_kind=None, source=None, target=None, name=None, class_=None, perm=None):
+    policy = read_policy(rules, contexts, kind)
+    if name is not None:
+        target = type_of_name(policy, name)
+    known_kind(rule_kind)
+    known(policy, source, target, class_, perm)
+    wanted = (source, target, class_, perm)
+    left = [
+        each for each in every_access(policy) if all(want is None or want == is_ for want, is_ in zip(wanted, each))
+    ]
+    kept = [rule for each in RULES if rule_kind in (None, each) for rule in policy.rules[each]]
+    found = sorted(rule.line for rule in kept if any(rule.covers(*each) for each in left))
+    every = rules.split("\n")
+    return lines(f"{path}:{line}: {statement(every[line - 1 :])}" for line in found), "", 0
 
 
 def every_access(policy):

@@ -145,6 +145,13 @@ COMPLETED = [
     ("svcmgr access --class binder --perm c", "call"),
     ("svcmgr access --class binder ", "labels rules"),
     ("svcmgr access --source ", "labels rules"),
+    ("svcmgr ru", "run rules"),
+    ("svcmgr rules --k", "--kind"),
+    ("svcmgr rules --kind ", "allow neverallow dontaudit"),
+    ("svcmgr rules rules labels --kind d", "dontaudit"),
+    ("svcmgr rules --kind allow --class s", "service_manager"),
+    ("svcmgr rules --perm t", "transfer"),
+    ("svcmgr rules --kind allow ", "labels rules"),
     ("svcmgr diff rules labels n", ""),
     ("svcmgr-doorkeeper --re", "--relay"),
     ("svcmgr-doorkeeper --relay --mo", "--mode"),
@@ -267,6 +274,7 @@ FAULTS = {
     "serve --socket socket --admin admin rules labels": [*FIRST, [DENIED], *SOCKETS],
     "explain rules labels untrusted_app activity_service service_manager find": ASKED,
     "access --source untrusted_app rules labels": ASKED,
+    "rules --source untrusted_app rules labels": ASKED,
     "diff rules labels new newlabels": [[UNKNOWN_OPTION], *OLD, *NEW],
 }
 
@@ -360,6 +368,24 @@ QUESTIONS = [
         "untrusted_app system_server binder transfer 35\n",
     ),
     ("access rules labels --source private_service", 0, ""),
+    (
+        "rules rules labels --source isolated_app",
+        0,
+        "rules:20: allow isolated_app servicemanager:binder call;\n"
+        "rules:28: allow isolated_app activity_service:service_manager find;\n",
+    ),
+    (
+        "rules device devicelabels --source untrusted_app --name activity",
+        0,
+        "device:17: allow binderuser activity_service:service_manager find;\n"
+        "device:22: neverallow untrusted_app *:service_manager add;\n",
+    ),
+    (
+        "rules --kind allow --target activity_service --class service_manager --perm find device devicelabels",
+        0,
+        "device:17: allow binderuser activity_service:service_manager find;\n",
+    ),
+    ("rules device devicelabels --kind dontaudit", 0, ""),
     ("diff rules labels rules labels", 0, ""),
     (
         "diff rules labels new newlabels",
@@ -391,13 +417,17 @@ UNANSWERED = [
     ("explain rules labels untrusted_app activity_service binder find", "", "fault: unknown permission find\n"),
     ("access rules labels --source app", "", "fault: unknown type app\n"),
     ("access rules labels --class binder --perm find", "", "fault: unknown permission find\n"),
+    ("rules rules labels --kind auditallow --source app", "", "fault: unknown kind auditallow\n"),
+    ("rules rules labels --kind allow --source app", "", "fault: unknown type app\n"),
     ("label nowhere labels foo", "", NOWHERE),
     ("explain rules nowhere untrusted_app activity_service service_manager find", "", NOWHERE),
     ("access rules nowhere", "", NOWHERE),
+    ("rules rules nowhere", "", NOWHERE),
     ("diff rules labels nowhere labels", "", NOWHERE),
     ("label refused labels foo", UNKNOWN_NAME, ""),
     ("explain refused labels untrusted_app activity_service service_manager find", UNKNOWN_NAME, ""),
     ("access refused labels", UNKNOWN_NAME, ""),
+    ("rules refused labels", UNKNOWN_NAME, ""),
     ("diff refused labels rules labels", UNKNOWN_NAME, "fault: refused labels: policy refused\n"),
     (
         "diff rules labels rules refused",
@@ -450,6 +480,7 @@ def unread_answers(program):
     asked = [
         ("label rules labels activity", 0),
         ("access rules labels", 0),
+        ("rules rules labels", 0),
         ("explain rules labels untrusted_app activity_service service_manager find", 1),
         ("diff rules labels new newlabels", 1),
         ("label refused labels activity", 2),

@@ -19,6 +19,7 @@ PAGES = {
         "sm_questions::labelling::label",
         "sm_questions::explaining::explain",
         "sm_questions::listing::access",
+        "sm_questions::rule_listing::rules",
         "sm_questions::comparing::diff",
     ],
     "run_script": ["sm_script::running::run_script"],

@@ -5,7 +5,7 @@ ghost use Rattle.std.specs.Prelude.{◌≡◌, IfSome};
 use crate::administration::{Administration, administration_of, misused_request};
 use crate::numbers::odd_number;
 use crate::parser::command;
-use crate::question::{Question, question_of};
+use crate::question::{Question, RuleFilterWords, question_of, rule_filter_of};
 use crate::sockets::{DEFAULT_SLOTS, Sockets, misused, slots_of, sockets_of};
 use clap::error::ErrorKind;
 use clap::{ArgMatches, Error};
@@ -27,6 +27,9 @@ pub enum Mode<'a> {
     Serve(Sockets<'a>),
     /// `svcmgr label`, `explain`, `access` or `diff`
     Ask(Question<'a>),
+    /// `svcmgr rules [--kind KIND] [--source TYPE] [--target TYPE] [--name NAME] [--class CLASS] [--perm PERM] RULES
+    /// CONTEXTS`
+    Rules(RuleFilterWords<'a>),
 }
 
 /// What a command line asks for.
@@ -154,6 +157,7 @@ fn options_under<'a>(name: &str, matches: &ArgMatches<'a>) -> Option<Options<'a>
             matches,
         ),
         "serve" => in_mode(Mode::Serve(sockets_of(matches)?), matches),
+        "rules" => in_mode(Mode::Rules(rule_filter_of(matches)), matches),
         _ => in_mode(Mode::Ask(question_of(name, matches)?), matches),
     }
 }
@@ -163,7 +167,7 @@ fn in_mode<'a>(mode: Mode<'a>, matches: &ArgMatches<'a>) -> Option<Options<'a>>
 {
     let entries = match mode {
         Mode::Run | Mode::Serve(_) => slots_of(matches),
-        Mode::Check { .. } | Mode::Ask(_) => DEFAULT_SLOTS,
+        Mode::Check { .. } | Mode::Ask(_) | Mode::Rules(_) => DEFAULT_SLOTS,
     };
     Some(Options {
         mode,

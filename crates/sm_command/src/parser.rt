@@ -16,6 +16,7 @@ pub fn command<'a>(alloc: Global) -> Result<Command<'a>, AllocError> {
         .subcommand(label(alloc))
         .subcommand(explain(alloc))
         .subcommand(access(alloc))
+        .subcommand(rules(alloc))
         .subcommand(diff(alloc))
         .subcommand(admin(alloc))
         .end()
@@ -75,13 +76,15 @@ fn explain<'a>(alloc: Global) -> Building<'a> {
 
 fn access<'a>(alloc: Global) -> Building<'a> {
     let about = "Lists the accesses that a policy allows, with the lines of their rules";
-    let access = Building::new(alloc, "access", about)
-        .arg(word(alloc, "source", "TYPE", "Only those of this type"))
-        .try_arg(target(alloc))
-        .arg(word(alloc, "name", "NAME", "Only those to this service"))
-        .arg(word(alloc, "class", "CLASS", "Only those of this class"))
-        .arg(word(alloc, "perm", "PERM", "Only those with this permission"));
-    with_files(alloc, access)
+    let access = Building::new(alloc, "access", about);
+    with_files(alloc, with_filter(alloc, access))
+}
+
+fn rules<'a>(alloc: Global) -> Building<'a> {
+    let about = "Lists the rules of a policy that cover some access, each on one line";
+    let kinds = "Only those of this kind: allow, neverallow or dontaudit";
+    let rules = Building::new(alloc, "rules", about).arg(word(alloc, "kind", "KIND", kinds));
+    with_files(alloc, with_filter(alloc, rules))
 }
 
 fn diff<'a>(alloc: Global) -> Building<'a> {
@@ -127,6 +130,16 @@ fn with_access<'a>(alloc: Global, command: Building<'a>, target: &'a str) -> Bui
         .arg(operand(alloc, "target", "TARGET", target))
         .arg(operand(alloc, "class", "CLASS", "service_manager or binder"))
         .arg(operand(alloc, "perm", "PERM", "A permission of the class"))
+}
+
+/// Adds the options that leave some accesses to a command.
+fn with_filter<'a>(alloc: Global, command: Building<'a>) -> Building<'a> {
+    command
+        .arg(word(alloc, "source", "TYPE", "Only those of this type"))
+        .try_arg(target(alloc))
+        .arg(word(alloc, "name", "NAME", "Only those to this service"))
+        .arg(word(alloc, "class", "CLASS", "Only those of this class"))
+        .arg(word(alloc, "perm", "PERM", "Only those with this permission"))
 }
 
 /// Adds the files of a policy to a command.

@@ -42,6 +42,14 @@ pub struct FilterWords<'a> {
     pub perm: Option<&'a str>,
 }
 
+/// The words that rules must have, each if it is given.
+#[derive(Clone, Copy, PartialEq, Eq)]
+pub struct RuleFilterWords<'a> {
+    pub kind: Option<&'a str>,
+    /// Of the accesses, one of which a rule must cover.
+    pub accesses: FilterWords<'a>,
+}
+
 /// The files of the policy that another one is compared with.
 #[derive(Clone, Copy, PartialEq, Eq)]
 pub struct NewFiles<'a> {
@@ -72,6 +80,14 @@ fn access_of<'a>(matches: &ArgMatches<'a>) -> Option<AccessWords<'a>> {
         class: matches.get_str("class")?,
         perm: matches.get_str("perm")?,
     })
+}
+
+/// Returns the words for a list of rules.
+pub fn rule_filter_of<'a>(matches: &ArgMatches<'a>) -> RuleFilterWords<'a> {
+    RuleFilterWords {
+        kind: matches.get_str("kind"),
+        accesses: filter_of(matches),
+    }
 }
 
 fn filter_of<'a>(matches: &ArgMatches<'a>) -> FilterWords<'a> {

@@ -6,7 +6,7 @@ ghost use Rattle.sm_command.specs.Endings as spec;
 use sm_questions::{Unknown, unknown_text};
 use std::alloc::{AllocError, Global};
 
-/// Returns `fault: unknown type WORD`, or the same for a class or a permission.
+/// Returns `fault: unknown type WORD`, or the same for a class, a permission or a kind of rule.
 pub fn unknown_line(alloc: Global, unknown: &Unknown<'_>) -> Result<Vec<u8>, AllocError>
     ensures { IfOk result (λ line. line.items ≡ spec.unknown_line unknown.now) }
 {

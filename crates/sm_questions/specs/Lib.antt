@@ -1,6 +1,7 @@
 pub mod Accesses
 pub mod AllShown
 pub mod Buffered
+pub mod Covering
 pub mod Differences
 pub mod Explanations
 pub mod Filters
@@ -13,6 +14,9 @@ pub mod LineStarts
 pub mod OneLine
 pub mod Parts
 pub mod Relabelled
+pub mod RuleFilters
+pub mod RuleLaws
+pub mod RuleLines
 pub mod Shown
 pub mod TypeNumbers
 pub mod Words

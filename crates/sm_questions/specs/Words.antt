@@ -35,3 +35,4 @@ abbrev pub unknown_words : Unknown → List ℕ
 unknown_words (unknown.Type word) = codes "unknown type " ++ word
 unknown_words (unknown.Class word) = codes "unknown class " ++ word
 unknown_words (unknown.Permission word) = codes "unknown permission " ++ word
+unknown_words (unknown.Kind word) = codes "unknown kind " ++ word

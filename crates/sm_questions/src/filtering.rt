@@ -1,11 +1,12 @@
 //! What `svcmgr access` is asked for.
 
 ghost use Rattle.std.specs.Prelude.{◌≡◌};
+ghost use Rattle.sm_questions.specs.Accesses.{is_left};
 ghost use Rattle.sm_questions.specs.Filters as spec;
 
 use crate::Unknown;
 use crate::lookups::is_declared;
-use sm_kinds::{Class, Perms, Word};
+use sm_kinds::{Class, Perms, Word, spells};
 use sm_policy::Prepared;
 
 /// The permissions of `service_manager`.
@@ -45,6 +46,16 @@ pub struct Filter<'a> {
     pub target: Option<Word<'a>>,
     /// Only those with one of these permissions.
     pub perms: Perms,
+}
+
+/// Returns whether a type is the one that is asked for, if one is.
+pub fn is_left(wanted: &Option<Word<'_>>, name: &[u8]) -> bool
+    ensures { result ≡ is_left wanted.now name.now }
+{
+    match wanted {
+        Some(word) => spells(word.bytes(), name),
+        None => true,
+    }
 }
 
 fn declared<'a>(policy: &Prepared, word: &'a [u8]) -> Result<Option<Word<'a>>, Unknown<'a>>

@@ -1,5 +1,5 @@
-//! Answers to questions about a policy: the label of a name, the rule that grants an access, and the accesses of a
-//! policy.
+//! Answers to questions about a policy: the label of a name, the rule that grants an access, the accesses of a policy,
+//! and its rules.
 #![tactic(auto)]
 
 mod buffer;
@@ -9,13 +9,20 @@ mod filtering;
 mod first_lines;
 mod judging;
 mod labelling;
+mod left;
 mod line_starts;
+mod listed;
 mod listing;
 mod lookups;
 mod lost;
 mod one_line;
 mod part;
+mod passed;
+mod quotes;
 mod relabelling;
+mod rule_filter;
+mod rule_laws;
+mod rule_listing;
 mod showing;
 mod showing_all;
 #[cfg(test)]
@@ -29,6 +36,9 @@ pub use filtering::{Filter, FilterOptions, Target, read_filter};
 pub use judging::check_all;
 pub use labelling::label;
 pub use listing::access;
+pub use rule_filter::{RuleFilter, RuleOptions, read_rule_filter};
+pub use rule_laws::{first_is_explained, words_leave_one};
+pub use rule_listing::rules;
 pub use showing::shown_lines;
 pub use showing_all::all_shown_lines;
 pub use unknown::{Unknown, read_access, unknown_text};

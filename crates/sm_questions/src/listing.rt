@@ -13,24 +13,16 @@ ghost use Rattle.sm_questions.specs.FirstLines.{AreAsked, HasPair, IsAsked};
 
 use crate::Filter;
 use crate::buffer::write_full;
+use crate::filtering::is_left;
 use crate::first_lines::LineTable;
 use crate::lookups::{byte_at, type_count, type_name};
 use sm_bits::{has_bit, with_bit};
 use sm_engine::{Counted, Fault, write_whole};
-use sm_kinds::{Perms, Word, push_access, push_numbered, spells};
+use sm_kinds::{Perms, Word, push_access, push_numbered};
 use sm_policy::Prepared;
 use sm_rules::{PERM_COUNT, class_at, perm_at};
 use std::alloc::{AllocError, Global};
 use std::io::Write;
-
-fn is_left(wanted: &Option<Word<'_>>, name: &[u8]) -> bool
-    ensures { result ≡ spec.is_left wanted.now name.now }
-{
-    match wanted {
-        Some(word) => spells(word.bytes(), name),
-        None => true,
-    }
-}
 
 /// Returns the numbers of the types that are asked for, in the order of their declaration.
 fn numbers_left(

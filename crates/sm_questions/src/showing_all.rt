@@ -46,7 +46,7 @@ fn lines_at<'a>(text: &'a [u8], starts: &[usize], number: u32) -> Lines<'a>
 }
 
 /// Appends the statement of the line of a number.
-fn push_statement(
+pub fn push_statement(
     alloc: Global,
     path: &[u8],
     text: &[u8],

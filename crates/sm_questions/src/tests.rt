@@ -1,7 +1,11 @@
 //! Answers to questions about small policies. Each is worked out by hand.
 
+ghost use Rattle.std.specs.Prelude.{◌≡◌, Ok};
+ghost use Rattle.sm_policy.specs.Preparing.{rules_of};
+
 use crate::{
-    FilterOptions, Target, access, diff, explain, label, read_access, read_filter, shown_lines,
+    FilterOptions, RuleOptions, Target, access, diff, explain, label, read_access, read_filter,
+    read_rule_filter, rules, shown_lines, unknown_text,
 };
 use sm_engine::Counted;
 use sm_kinds::Word;
@@ -398,4 +402,137 @@ fn lines_that_a_refusal_names(rt: HostRuntime) {
     for refused in REFUSED {
         assert!(rt; shows(&rt, rt.alloc(), refused));
     }
+}
+
+/// Rules of all kinds: two that begin on one line, one over several lines, one that isn't kept, and one by `self`.
+const MANY_RULES: &[u8] = b"attribute domain;
+type init; # the first process
+type app, domain;
+type svc;
+neverallow app svc:service_manager add; allow domain svc : service_manager { find list }; # both
+allow app svc:file read;
+allow {
+    init # and
+    app
+} self:binder call;
+dontaudit init svc:service_manager add;
+dontaudit app svc:service_manager find;
+";
+
+/// The kind, the source, the target, the class and the permission that are asked for, and the lines.
+type Listed = ([&'static [u8]; 5], &'static [u8]);
+
+const LISTED: &[Listed] = &[
+    (
+        [b"", b"", b"", b"", b""],
+        b"t.te:5: neverallow app svc:service_manager add; allow domain svc : service_manager { find list };
+t.te:5: neverallow app svc:service_manager add; allow domain svc : service_manager { find list };
+t.te:7: allow { init app } self:binder call;
+t.te:11: dontaudit init svc:service_manager add;
+t.te:12: dontaudit app svc:service_manager find;
+",
+    ),
+    (
+        [b"dontaudit", b"app", b"", b"", b""],
+        b"t.te:12: dontaudit app svc:service_manager find;\n",
+    ),
+    (
+        [b"", b"app", b"svc", b"service_manager", b"find"],
+        b"t.te:5: neverallow app svc:service_manager add; allow domain svc : service_manager { find list };
+t.te:12: dontaudit app svc:service_manager find;
+",
+    ),
+    (
+        [b"allow", b"init", b"init", b"", b""],
+        b"t.te:7: allow { init app } self:binder call;\n",
+    ),
+    ([b"allow", b"init", b"app", b"", b""], b""),
+    ([b"neverallow", b"", b"", b"", b"find"], b""),
+    ([b"", b"svc", b"", b"", b""], b""),
+];
+
+fn given(word: &'static [u8]) -> Option<Word<'static>> {
+    if word.is_empty() {
+        None
+    } else {
+        Some(Word::new(word))
+    }
+}
+
+fn rule_options(words: &[&'static [u8]; 5]) -> RuleOptions<'static> {
+    let target = words[2];
+    RuleOptions {
+        kind: given(words[0]),
+        accesses: FilterOptions {
+            source: given(words[1]),
+            target: if target.is_empty() {
+                Target::Any
+            } else {
+                Target::Type(Word::new(target))
+            },
+            class: given(words[3]),
+            perm: given(words[4]),
+        },
+    }
+}
+
+/// Returns whether these are the lines for the rules of a policy with this source.
+fn lists_rules(
+    rt: &impl Abort,
+    alloc: Global,
+    policy: &Prepared,
+    source: &[u8],
+    options: &RuleOptions<'_>,
+    lines: &[u8],
+) -> bool
+    requires { rules_of source.now ≡ Ok policy.now.statements }
+{
+    let filter = read_rule_filter(policy, options)
+        .ok()
+        .expect(rt, "known words");
+    let mut writer = Counted::new(Vec::new(alloc));
+    rules(alloc, policy, &filter, b"t.te", source, &mut writer)
+        .ok()
+        .expect(rt, "a list");
+    writer.into_inner().as_slice() == lines
+}
+
+/// Returns whether all lists have their lines.
+#[tactic(auto, using(crate::proofs::Sources::source_read))]
+fn lists_all(rt: &impl Abort, alloc: Global) -> bool {
+    let Ok(policy) = Prepared::from_texts(alloc, MANY_RULES, CONTEXTS) else {
+        return false;
+    };
+    for (words, lines) in LISTED {
+        if !lists_rules(rt, alloc, &policy, MANY_RULES, &rule_options(words), lines) {
+            return false;
+        }
+    }
+    true
+}
+
+#[test]
+fn rules_on_their_lines(rt: HostRuntime) {
+    assert!(rt; lists_all(&rt, rt.alloc()));
+}
+
+fn refuses(rt: &impl Abort, alloc: Global, words: &[&'static [u8]; 5], text: &[u8]) -> bool {
+    let policy = tables(rt, alloc, RULES, CONTEXTS);
+    let options = rule_options(words);
+    let unknown = read_rule_filter(&policy, &options)
+        .err()
+        .expect(rt, "an unknown word");
+    unknown_text(alloc, &unknown)
+        .ok()
+        .expect(rt, "memory")
+        .as_slice()
+        == text
+}
+
+#[test]
+fn unknown_words_of_rules(rt: HostRuntime) {
+    let kind = [b"auditallow".as_slice(), b"nobody", b"", b"", b""];
+    assert!(rt; refuses(&rt, rt.alloc(), &kind, b"unknown kind auditallow"));
+    let source = [b"allow".as_slice(), b"nobody", b"", b"", b""];
+    assert!(rt; refuses(&rt, rt.alloc(), &source, b"unknown type nobody"));
 }

@@ -21,6 +21,9 @@ pub enum Unknown<'a> {
     /// The class has no such permission.
     #[error("unknown permission {0}")]
     Permission(Word<'a>),
+    /// There is no such kind of rule.
+    #[error("unknown kind {0}")]
+    Kind(Word<'a>),
 }
 
 /// Returns the class and the permission of an access, whose types, class and permission are given by their words.
@@ -59,7 +62,8 @@ fn perm_of<'a>(class: Class, perm: &'a [u8]) -> Result<(Class, Perms), Unknown<'
     }
 }
 
-/// Returns what is unknown and its word: `unknown type WORD`, `unknown class WORD` or `unknown permission WORD`.
+/// Returns what is unknown and its word: `unknown type WORD`, `unknown class WORD`, `unknown permission WORD` or
+/// `unknown kind WORD`.
 pub fn unknown_text(alloc: Global, unknown: &Unknown<'_>) -> Result<Vec<u8>, AllocError>
     ensures { IfOk result (λ text. text.items ≡ unknown_words unknown.now) }
 {
@@ -67,6 +71,7 @@ pub fn unknown_text(alloc: Global, unknown: &Unknown<'_>) -> Result<Vec<u8>, All
         Unknown::Type(word) => (b"unknown type ".as_slice(), word),
         Unknown::Class(word) => (b"unknown class ".as_slice(), word),
         Unknown::Permission(word) => (b"unknown permission ".as_slice(), word),
+        Unknown::Kind(word) => (b"unknown kind ".as_slice(), word),
     };
     let mut text = Vec::from_slice(alloc, kind)?;
     text.extend_from_slice(word.bytes())?;

@@ -22,7 +22,7 @@ use clap::error::ErrorKind;
 use daemon::serve_policy;
 use journald::is_journal;
 use passed::{Passed, Unusable, passed_sockets};
-use questions::ask;
+use questions::{ask, ask_rules};
 use sm_command::{
     Ending, Invocation, Mode, NO_MEMORY, Options, Sockets, invocation_of, read_limited, words_of,
 };
@@ -148,6 +148,7 @@ fn perform<'a, R: Files + Net + Threads + Wait + Clock + Sync>(
         Mode::Check { all: true, show } => check_rules(host, options, show),
         Mode::Serve(sockets) => Ok(serve(host, rt, options, sockets)),
         Mode::Ask(question) => Ok(ask(host, options, question)),
+        Mode::Rules(words) => Ok(ask_rules(host, options, words)),
     }
 }
 

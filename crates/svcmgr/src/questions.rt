@@ -1,17 +1,21 @@
 //! Answers to questions about policies, on standard output.
 
+ghost use Rattle.std.specs.Prelude.{◌≡◌, Ok};
+ghost use Rattle.sm_policy.specs.Preparing.{rules_of};
+
 use crate::pipe::Pipe;
 use crate::{fail, text_of};
 use sm_check::refused_line;
 use sm_command::{
-    AccessWords, Ending, FilterWords, NO_MEMORY, NewFiles, Options, Question, TargetWord,
-    unknown_line,
+    AccessWords, Ending, FilterWords, NO_MEMORY, NewFiles, Options, Question, RuleFilterWords,
+    TargetWord, unknown_line,
 };
 use sm_engine::{Counted, Fault, write_whole};
 use sm_kinds::Word;
 use sm_policy::{PolicyFault, Prepared};
 use sm_questions::{
-    FilterOptions, Target, Unknown, access, diff, explain, label, read_access, read_filter,
+    FilterOptions, RuleOptions, Target, Unknown, access, diff, explain, label, read_access,
+    read_filter, read_rule_filter, rules,
 };
 use std::process::ExitCode;
 
@@ -20,7 +24,21 @@ const NO_ANSWER: u8 = 2;
 
 /// Reads the policy, and answers the question.
 pub fn ask<'a>(rt: &HostRuntime, options: &Options<'a>, question: Question<'a>) -> ExitCode {
-    match try_ask(rt, options, question) {
+    answered(rt, try_ask(rt, options, question))
+}
+
+/// Reads the policy, and lists its rules.
+pub fn ask_rules<'a>(
+    rt: &HostRuntime,
+    options: &Options<'a>,
+    words: RuleFilterWords<'a>,
+) -> ExitCode {
+    answered(rt, try_ask_rules(rt, options, words))
+}
+
+/// Returns the status of an answer, or reports why there is none.
+fn answered<'a>(rt: &HostRuntime, answer: Result<ExitCode, Ending<'a>>) -> ExitCode {
+    match answer {
         Ok(code) => code,
         Err(ending) => {
             fail(rt, &ending);
@@ -56,6 +74,23 @@ fn read_policy<'a>(
         Err(fault) => {
             refuse(rt, &fault)?;
             Ok(None)
+        }
+    }
+}
+
+#[tactic(auto, using(sm_questions::proofs::Sources::source_read))]
+fn try_ask_rules<'a>(
+    rt: &HostRuntime,
+    options: &Options<'a>,
+    words: RuleFilterWords<'a>,
+) -> Result<ExitCode, Ending<'a>> {
+    let source = text_of(rt, options.rules)?;
+    let contexts = text_of(rt, options.contexts)?;
+    match Prepared::from_texts(rt.alloc(), &source, &contexts) {
+        Ok(policy) => tell_rules(rt, &policy, options.rules, &source, words),
+        Err(fault) => {
+            refuse(rt, &fault)?;
+            Ok(ExitCode::from(NO_ANSWER))
         }
     }
 }
@@ -172,6 +207,36 @@ fn tell_accesses<'a>(
     };
     let mut writer = Counted::new(Pipe::new(rt.stdout()));
     let ended = access(rt.alloc(), policy, &filter, &mut writer);
+    listed(ended, writer.into_inner().is_closed())
+}
+
+/// Lists the rules of a policy, whose policy source has this path.
+fn tell_rules<'a>(
+    rt: &HostRuntime,
+    policy: &Prepared,
+    path: &str,
+    source: &[u8],
+    words: RuleFilterWords<'_>,
+) -> Result<ExitCode, Ending<'a>>
+    requires { rules_of source.now ≡ Ok policy.now.statements }
+{
+    let options = RuleOptions {
+        kind: words.kind.map(word),
+        accesses: filter_options(words.accesses),
+    };
+    let filter = match read_rule_filter(policy, &options) {
+        Ok(filter) => filter,
+        Err(unknown) => return Ok(refuse_word(rt, &unknown)),
+    };
+    let mut writer = Counted::new(Pipe::new(rt.stdout()));
+    let ended = rules(
+        rt.alloc(),
+        policy,
+        &filter,
+        path.as_bytes(),
+        source,
+        &mut writer,
+    );
     listed(ended, writer.into_inner().is_closed())
 }
 

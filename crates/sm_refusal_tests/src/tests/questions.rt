@@ -6,8 +6,8 @@ use sm_engine::{Counted, Fault};
 use sm_kinds::{Class, Perms, Word};
 use sm_policy::{PolicyFault, Prepared};
 use sm_questions::{
-    FilterOptions, Target, Unknown, access, all_shown_lines, check_all, diff, explain, label,
-    read_filter, shown_lines, unknown_text,
+    FilterOptions, RuleOptions, Target, Unknown, access, all_shown_lines, check_all, diff, explain,
+    label, read_filter, read_rule_filter, rules, shown_lines, unknown_text,
 };
 use sm_ruletext::RuleTextFault;
 use sm_samples::{BROKEN_RULE, DEVICE_LABELS, DEVICE_RULES, device_rules_with, stricter_rules};
@@ -82,6 +82,33 @@ fn lists(rt: &impl Abort, alloc: Global, policy: &Prepared) -> Option<()> {
     lists_one(rt, alloc, policy, &options)
 }
 
+const RULES_TOLD: &[u8] = b"t.te:13: allow binderuser activity_service:service_manager find;
+t.te:16: neverallow untrusted_app *:service_manager add;
+";
+
+/// Lists the rules of an application to a service.
+#[tactic(auto, using(sm_questions::proofs::Sources::source_read))]
+fn lists_rules(rt: &impl Abort, alloc: Global) -> Option<()> {
+    let Ok(policy) = Prepared::from_texts(alloc, DEVICE_RULES, DEVICE_LABELS) else {
+        return None;
+    };
+    let options = RuleOptions {
+        kind: None,
+        accesses: FilterOptions {
+            source: Some(Word::new(b"untrusted_app")),
+            target: Target::Name(Word::new(b"activity")),
+            class: None,
+            perm: None,
+        },
+    };
+    let filter = read_rule_filter(&policy, &options)
+        .ok()
+        .expect(rt, "known words");
+    let mut writer = Counted::new(Vec::new(alloc));
+    let fault = rules(alloc, &policy, &filter, b"t.te", DEVICE_RULES, &mut writer).err();
+    wrote(rt, fault, writer, RULES_TOLD)
+}
+
 fn compares(rt: &impl Abort, alloc: Global, old: &Prepared, new: &Prepared) -> Option<()> {
     let mut writer = Counted::new(Vec::new(alloc));
     let fault = diff(alloc, old, new, &mut writer).err();
@@ -139,6 +166,7 @@ fn answers(rt: &impl Abort, alloc: Global, old: &Prepared, new: &Prepared) {
     again!(rt; labels(rt, alloc, old));
     again!(rt; explains(rt, alloc, old));
     again!(rt; lists(rt, alloc, old));
+    again!(rt; lists_rules(rt, alloc));
     again!(rt; compares(rt, alloc, old, new));
     again!(rt; names_a_word(rt, alloc));
     again!(rt; shows_a_line(rt, alloc));

@@ -3,7 +3,7 @@
 use clap::error::ErrorKind;
 use sm_command::{
     AccessWords, AdminRequest, Administration, Ending, FilterWords, Invocation, Mode, NewFiles,
-    Question, RuleWords, Sockets, TargetWord, invocation_of, words_of,
+    Question, RuleFilterWords, RuleWords, Sockets, TargetWord, invocation_of, words_of,
 };
 use std::alloc::{AllocError, Global};
 use std::env::{Env, FillError};
@@ -159,6 +159,27 @@ const ACCEPTED: &[(&str, Mode, u32)] = &[
         1_048_576,
     ),
     (
+        "svcmgr rules r c",
+        Mode::Rules(RuleFilterWords {
+            kind: None,
+            accesses: ANY_ACCESS,
+        }),
+        1_048_576,
+    ),
+    (
+        "svcmgr rules --kind neverallow --source app r --name activity c --perm add",
+        Mode::Rules(RuleFilterWords {
+            kind: Some("neverallow"),
+            accesses: FilterWords {
+                source: Some("app"),
+                target: Some(TargetWord::Name("activity")),
+                class: None,
+                perm: Some("add"),
+            },
+        }),
+        1_048_576,
+    ),
+    (
         "svcmgr diff r c s d",
         Mode::Ask(Question::Diff(NewFiles {
             rules: "s",
@@ -265,6 +286,7 @@ const REFUSED: &[(ErrorKind, &[&str])] = &[
             "svcmgr label r c",
             "svcmgr explain r c app svc binder",
             "svcmgr diff r c s",
+            "svcmgr rules --kind allow r",
             "svcmgr check --show",
             "svcmgr admin reload r",
             "svcmgr admin explain app svc binder",
@@ -276,6 +298,7 @@ const REFUSED: &[(ErrorKind, &[&str])] = &[
             "svcmgr run r c s",
             "svcmgr check --journal 2 r c",
             "svcmgr run --workers 2 r c",
+            "svcmgr access --kind allow r c",
         ],
     ),
     (
@@ -310,7 +333,10 @@ const REFUSED: &[(ErrorKind, &[&str])] = &[
     ),
     (
         ErrorKind::ArgumentConflict,
-        &["svcmgr access --target svc --name activity r c"],
+        &[
+            "svcmgr access --target svc --name activity r c",
+            "svcmgr rules --target svc --name activity r c",
+        ],
     ),
     (ErrorKind::DisplayVersion, &["svcmgr --version"]),
     (ErrorKind::DisplayHelp, &["svcmgr --help"]),
