@@ -286,7 +286,7 @@ def faulty_lines(words, faults):
             if not first.keys() & second.keys():
                 given = first | second
                 options = [given["option"]] if "option" in given else []
-                yield [given.get(word, word) for word in words] + options, *ending
+                yield [words[0], *(given.get(word, word) for word in words[1:]), *options], *ending
 
 
 @check

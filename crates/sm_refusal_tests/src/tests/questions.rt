@@ -87,7 +87,6 @@ t.te:16: neverallow untrusted_app *:service_manager add;
 ";
 
 /// Lists the rules of an application to a service.
-#[tactic(auto, using(sm_questions::proofs::Sources::source_read))]
 fn lists_rules(rt: &impl Abort, alloc: Global) -> Option<()> {
     let Ok(policy) = Prepared::from_texts(alloc, DEVICE_RULES, DEVICE_LABELS) else {
         return None;
