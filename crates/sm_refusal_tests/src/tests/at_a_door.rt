@@ -164,7 +164,7 @@ impl<'a, J: Naming, R: Wait + Abort> Caller<'a, J, R> {
         Some(())
     }
 
-    /// There are so many records. `None` if an allocation failed.
+    /// There is this number of records. `None` if an allocation failed.
     fn has_denials(&self, me: &mut Admin<J>, wanted: usize) -> Option<()> {
         let records = self.door.denials(self.rt, me).ok()?;
         assert!(self.rt; records.len() == wanted);
