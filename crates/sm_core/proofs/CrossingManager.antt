@@ -234,7 +234,7 @@ draft_send : IsSend Draft.the_field.row
 draft_send =
     struct_send (struct.shape Draft.the_type) (
       Vec-send Effect.the_row effect_send,
-      (Vec-send Record.the_row record_send, (Vec-send Record.the_row record_send, tt)),
+      (Vec-send Record.the_row record_send, (Vec-send Record.the_row record_send, (u32_send, tt))),
     )
 
 ledger_send : IsSend Ledger.the_row

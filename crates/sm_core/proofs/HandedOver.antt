@@ -20,7 +20,3 @@ pub first_taken : {X : Type 0} (o : Option X) (A P Q : Type 0) (E : X → Type 0
     → MatchOption o A E
 first_taken None A P Q E m = m.0
 first_taken (Some x) A P Q E m = m.0
-
-pub was_released : {N : Type 0} (o : Option N) (n : N) (P : Type 0) (Q : N → Type 0) → o ≡ Some n
-    → MatchOption o P Q → Q n
-was_released o n P Q is m = subst (λ o. MatchOption o P Q) is m

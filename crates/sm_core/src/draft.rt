@@ -17,6 +17,9 @@ pub struct Draft {
     pub records: Vec<Record>,
     /// The records of its notices, which it leaves only if it is accepted.
     pub told: Vec<Record>,
+    /// The number of the handle that was released last, most likely. It is only a hint: an object that hasn't this
+    /// number is found by its hash.
+    pub near: u32,
 }
 
 /// Empties a list, and gives back its memory if that is for more than 64 elements.
@@ -41,6 +44,7 @@ impl Draft {
             effects: Vec::new(alloc),
             records: Vec::new(alloc),
             told: Vec::new(alloc),
+            near: 0,
         }
     }
 

@@ -2,32 +2,17 @@
 
 ghost use Rattle.std.specs.Prelude.{◌≡◌, ◌≤◌, ◌<◌, ◌+◌, ℕ, true, nat_lt, [], ◌∷◌, drop, length, MatchOption};
 ghost use Rattle.sm_history.specs.Effects.{Effects};
-ghost use Rattle.sm_history.specs.declared.effect.Effect.TheVariants.{Releases, Delivers, Takes, Watches};
+ghost use Rattle.sm_history.specs.declared.effect.Effect.TheVariants.{Delivers, Takes, Watches};
 ghost use Rattle.sm_history.specs.declared.limits.TheConstants.{MOST_WATCHES};
 ghost use Rattle.sm_history.specs.Services.{watches_at};
 ghost use Rattle.sm_history.specs.Clients.{is_live};
-ghost use Rattle.sm_history.specs.Holdings.{is_held, number_for};
 ghost use Rattle.sm_history.specs.Inboxes.{inbox_at, has_inbox_room};
-ghost use Rattle.sm_history.specs.Sound.{HasOneEach};
-ghost use Rattle.sm_grants.specs.Rows.{Tracks, spare_for};
 ghost use Rattle.sm_inbox.specs.Tracking.{TracksInboxes, is_open};
 ghost use Rattle.sm_names.specs.Tracking.{TracksNames, HasRoom};
 
-use sm_grants::Grants;
 use sm_history::{Delivery, MOST_WATCHES, Shared, WatchPair};
 use sm_inbox::Inboxes;
-use sm_kinds::Node;
 use sm_names::NameTable;
-
-/// Releases one grant of an object.
-pub fn give_back(grants: &mut Grants, client: u32, node: Node)
-    ensures tracks { (d : Effects) → Tracks d grants.old → is_live d client ≡ true → is_held d client node ≡ true
-        → HasOneEach d client → Tracks (Releases client node ∷ d) grants.new }
-    ensures spare { (k : ℕ) → spare_for grants.old k ≤ spare_for grants.new k }
-{
-    let number = grants.number_for(client, node);
-    let _ = grants.release(client, number);
-}
 
 /// Appends a delivery.
 pub fn deliver(inboxes: &mut Inboxes, client: u32, delivery: Shared<Delivery>)
@@ -36,9 +21,7 @@ pub fn deliver(inboxes: &mut Inboxes, client: u32, delivery: Shared<Delivery>)
         → is_open inboxes.old client ≡ true → TracksInboxes (Delivers client delivery ∷ d) inboxes.new }
     ensures still { (k : ℕ) → is_open inboxes.new k ≡ is_open inboxes.old k }
 {
-    if inboxes.can_put(client) {
-        inboxes.put(client, delivery);
-    }
+    let _ = inboxes.put_if_room(client, delivery);
 }
 
 /// Takes the oldest delivery, if there is any.

@@ -10,6 +10,7 @@ pub mod InOrder
 pub mod NewObjects
 pub mod HolderCounts
 pub mod Granting
+pub mod Releasing
 pub mod Handing
 pub mod Listed
 pub mod OnceRows

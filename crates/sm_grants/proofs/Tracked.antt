@@ -23,7 +23,7 @@ use Rattle.sm_grants.proofs.Small.{some_node, left_over, test_lt, lt_test}
 some_held : (n m : Held) → (let a : Option Held = Some n in a ≡ Some m) → n ≡ m
 some_held n m h = cc
 
-some_slot : (o : Option Held) (n : Node) → node_of o ≡ Some n → (h : Held) × (o ≡ Some h) × (h.node ≡ n)
+pub some_slot : (o : Option Held) (n : Node) → node_of o ≡ Some n → (h : Held) × (o ≡ Some h) × (h.node ≡ n)
 some_slot None n e = cc
 some_slot (Some h) n e = (h, refl, some_node h.node n e)
 
@@ -36,8 +36,8 @@ not_held refs num s n t absent =
       | inr le ↦ omega arith
     ]
 
-held_some : (refs num : Node → ℕ) (s : Slots) (i : ℕ) (n : Node) → AreTracked refs num s → node_of (slot s i) ≡ Some n
-    → (0 < refs n) × (num n ≡ i + 1)
+pub held_some : (refs num : Node → ℕ) (s : Slots) (i : ℕ) (n : Node) → AreTracked refs num s
+    → node_of (slot s i) ≡ Some n → (0 < refs n) × (num n ≡ i + 1)
 held_some refs num s i n t e =
     let h = some_slot (slot s i) n e in
     let w = t.held i h.0 h.1 in

@@ -1,6 +1,7 @@
 //! The handles of all clients.
 
 ghost use Rattle.std.specs.Prelude.{◌≡◌, ◌≤◌, ◌<◌, ◌+◌, ◌++◌, [], ◌∷◌, true, false, ◌==◌, ◌↔◌, ◌||◌, not, ℕ, min, max};
+ghost use Rattle.std.specs.Prelude.{if◌then◌else◌};
 ghost use Rattle.std.specs.Prelude.{nat_lt, length, is_some, Some, OnOk, IsOk, IsSome, IfOk, IfNone, IfSome};
 ghost use Rattle.std.specs.Prelude.{MatchOption};
 ghost use Rattle.std.specs.List.{list_any};
@@ -9,7 +10,8 @@ ghost use Rattle.sm_kinds.specs.declared.limits.TheConstants.{MOST_REFS};
 ghost use Rattle.sm_history.specs.Effects.{Effects, same_node};
 ghost use Rattle.sm_history.specs.declared.effect.Effect.TheVariants.{Gives, Releases, Dies};
 ghost use Rattle.sm_history.specs.Clients.{is_live};
-ghost use Rattle.sm_history.specs.Holdings.{refs_at, resolve_at, node_at, number_for, fits_handles, is_in_use};
+ghost use Rattle.sm_history.specs.Holdings.{refs_at, resolve_at, node_at, number_for, fits_handles};
+ghost use Rattle.sm_history.specs.Holdings.{is_held, is_in_use};
 ghost use Rattle.sm_history.specs.Tables.{Slots, slot, slot_at};
 ghost use Rattle.sm_grants.specs.Slots.{node_of, held_in, is_in, IsAbsent, IsNumberFor};
 ghost use Rattle.sm_grants.specs.Highest.{highest};
@@ -126,6 +128,24 @@ impl Grants {
         Some(held.node)
     }
 
+    /// Releases one grant of an object, and returns whether the client held it. The last release frees its number. An
+    /// object that has the number `near` is found fastest; any number gives the same result.
+    pub fn release_held(&mut self, client: u32, node: Node, near: u32) -> bool
+        ensures tracks { (d : Effects) → Tracks d self.old → (result ≡ is_held d client node)
+            × Tracks (if result then Releases client node ∷ d else d) self.new }
+        ensures spare { (k : ℕ) → spare_for self.old k ≤ spare_for self.new k }
+    {
+        let Some(i) = row_index(&self.rows, client) else {
+            return false;
+        };
+        let row = &mut self.rows[i];
+        let Some(slot) = row.handles.index_by(near, node) else {
+            return false;
+        };
+        row.handles.release(slot as usize);
+        true
+    }
+
     /// Removes what a client holds, at its death.
     pub fn remove_client(&mut self, client: u32)
         ensures tracks { (d : Effects) → Tracks d self.old → Tracks (Dies client ∷ d) self.new }
@@ -237,9 +257,29 @@ impl Grants {
             → result.items ≡ numbers_for d client nodes.now }
     {
         let mut numbers = ArrayVec::new();
+        let _ = self.numbers_if_room(client, nodes, &mut numbers);
+        numbers
+    }
+
+    /// Appends to an empty list the numbers of a client's handles if objects that it doesn't own are granted to it in
+    /// order, and returns whether its handles have room for all of them. Allocates nothing.
+    pub fn numbers_if_room(
+        &self,
+        client: u32,
+        nodes: &[Node],
+        numbers: &mut ArrayVec<u32, MOST_REFS>,
+    ) -> bool
+        requires few { length nodes.now ≤ MOST_REFS }
+        requires none { numbers.old.items ≡ [] }
+        ensures numbers { (d : Effects) → Tracks d self.now → is_live d client ≡ true
+            → numbers.new.items ≡ numbers_for d client nodes.now }
+        ensures room { (d : Effects) → Tracks d self.now → is_live d client ≡ true
+            → result ≡ fits_handles (after_grants d client nodes.now) client }
+    {
         let mut behind = 0;
+        let mut count = 0;
         for i in 0..nodes.len() {
-            let (number, next) = self.number_behind(
+            let (number, next, is_new) = self.number_behind(
                 client,
                 &nodes[..i],
                 numbers.as_slice(),
@@ -248,8 +288,11 @@ impl Grants {
             );
             numbers.push(number);
             behind = next;
+            if is_new {
+                count += 1;
+            }
         }
-        numbers
+        count <= MOST_HANDLES - self.len_of(client)
     }
 
     /// Returns whether a client's handles have room for objects that it doesn't own, all granted in order.
@@ -260,8 +303,8 @@ impl Grants {
         self.count_new(client, nodes) <= MOST_HANDLES - self.len_of(client)
     }
 
-    /// Returns the number of an object after grants of others, and the slot from which on slots are as free as before
-    /// these grants.
+    /// Returns the number of an object after grants of others, the slot from which on slots are as free as before these
+    /// grants, and whether the client doesn't hold the object and it isn't among the others, either.
     fn number_behind(
         &self,
         client: u32,
@@ -269,7 +312,7 @@ impl Grants {
         numbers: &[u32],
         node: Node,
         behind: usize,
-    ) -> (u32, usize)
+    ) -> (u32, usize, bool)
         requires as_many { length earlier.now ≡ length numbers.now }
         requires few { length earlier.now ≤ MOST_REFS }
         requires near { behind ≤ MOST_HANDLES + length earlier.now }
@@ -278,15 +321,17 @@ impl Grants {
             × Along (slots_of self.now.rows.items client) (with_grant t node result.0)
             (earlier.now ++ node ∷ []) (numbers.now ++ result.0 ∷ []) result.1 }
         ensures near { result.1 ≤ MOST_HANDLES + length earlier.now + 1 }
+        ensures fresh { result.2
+            ≡ not (is_in (slots_of self.now.rows.items client) node || list_any (λ n. same_node n node) earlier.now) }
     {
         if let Some(i) = self.index_of(client, node) {
-            return (i + 1, behind);
+            return (i + 1, behind, false);
         }
         if let Some(i) = node_index(earlier, node) {
-            return (numbers[i], behind);
+            return (numbers[i], behind, false);
         }
         let free = self.free_from(client, behind);
-        (free as u32 + 1, free + 1)
+        (free as u32 + 1, free + 1, true)
     }
 
     /// Returns the number of objects that a client doesn't hold, each counted once.

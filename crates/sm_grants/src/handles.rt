@@ -94,8 +94,9 @@ impl Handles {
         self.numbers.get(&(node.owner.0, node.object)).copied()
     }
 
-    /// Returns the slot of an object. If the object has this number, its hash isn't needed.
-    fn index_by(&self, number: u32, node: Node) -> Option<u32>
+    /// Returns the slot of an object. If the object has this number, it is found without its hash.
+    #[inline(always)]
+    pub fn index_by(&self, number: u32, node: Node) -> Option<u32>
         ensures found { MatchOption result (IsAbsent self.now.slots node)
             (λ i. node_of (slot self.now.slots i) ≡ Some node) }
         ensures small { IfSome result (λ i. i < MOST_HANDLES) }

@@ -1,7 +1,7 @@
 //! The inboxes of all clients.
 
 ghost use Rattle.std.specs.Prelude.{◌≡◌, ℕ, ◌+◌, ◌-◌, ◌≤◌, ◌<◌, ◌==◌, ◌↔◌, true, false, [], ◌∷◌, drop, length, IsTrue};
-ghost use Rattle.std.specs.Prelude.{IsOk, IfOk, OnOk, OnErr, MatchOption};
+ghost use Rattle.std.specs.Prelude.{IsOk, IfOk, OnOk, OnErr, MatchOption, if◌then◌else◌};
 ghost use Rattle.sm_history.specs.declared.limits.TheConstants.{MOST_DELIVERIES};
 ghost use Rattle.sm_history.specs.declared.effect.Effect.TheVariants.{Delivers, Takes, Dies};
 ghost use Rattle.sm_history.specs.Effects.{Effects};
@@ -140,6 +140,28 @@ impl Inboxes {
         };
         let row = &mut self.rows[i];
         row.waiting.push_back_reserved(delivery);
+    }
+
+    /// Appends a delivery to a client's inbox if a delivery may be put into it, and returns whether it may. Otherwise the
+    /// delivery is dropped. Allocates nothing.
+    pub fn put_if_room(&mut self, client: u32, delivery: Shared<Delivery>) -> bool
+        ensures may { IsTrue result ↔ (0 < room_of self.old client) }
+        ensures tracks { (d : Effects) → TracksInboxes d self.old → is_live d client ≡ true
+            → TracksInboxes (if result then Delivers client delivery ∷ d else d) self.new }
+        ensures still { (k : ℕ) → is_open self.new k ≡ is_open self.old k }
+        ensures room { (if result then room_of self.new client + 1 else room_of self.new client)
+            ≡ room_of self.old client }
+        ensures others { (k : ℕ) → (client == k) ≡ false → room_of self.new k ≡ room_of self.old k }
+    {
+        let Some(i) = inbox_index(&self.rows, client) else {
+            return false;
+        };
+        let row = &mut self.rows[i];
+        if row.waiting.len() >= MOST_DELIVERIES {
+            return false;
+        }
+        row.waiting.push_back_reserved(delivery);
+        true
     }
 
     /// Returns a client's oldest delivery.

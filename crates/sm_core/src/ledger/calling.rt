@@ -1,6 +1,7 @@
 //! Calls of objects.
 
 ghost use Rattle.std.specs.Prelude.{◌≡◌, ◌≤◌, ◌&&◌, ◌++◌, true, length, take, [], Some, IfOk, OnOk, MatchResult, false, is_some};
+ghost use Rattle.std.specs.Prelude.{IsTrue};
 ghost use Rattle.sm_kinds.specs.declared.limits.TheConstants.{MOST_REFS};
 ghost use Rattle.sm_history.specs.declared.delivery.Message.TheVariants.{Called};
 ghost use Rattle.sm_history.specs.declared.event.Event.TheVariants.{Call};
@@ -141,17 +142,14 @@ impl Ledger {
         };
         let mut nodes = [blank; MOST_REFS];
         let count = foreign(target.owner.0, named.as_slice(), &mut nodes);
-        if !self.has_room(target.owner.0, &nodes[..count]) {
+        let nodes = &nodes[..count];
+        let mut numbers = ArrayVec::new();
+        if !self.has_room(target.owner.0, nodes, &mut numbers) {
             return Err(failed(Failure::TargetFull));
         }
-        self.send(
-            row,
-            target,
-            payload,
-            named.as_slice(),
-            &nodes[..count],
-            draft,
-        )
+        let named = named.as_slice();
+        let numbers = numbers.as_slice();
+        self.send(row, target, payload, named, nodes, numbers, draft)
     }
 
     /// Returns the called object, if its owner lives and the caller may call the owner.
@@ -253,22 +251,24 @@ impl Ledger {
         Ok(node)
     }
 
-    /// Returns whether a receiver has room for a delivery, and for handles to these objects.
-    fn has_room(&self, receiver: u32, nodes: &[Node]) -> bool
-        requires { is_live (effects_in self.now) receiver ≡ true }
-        ensures { result ≡ (has_inbox_room (effects_in self.now) receiver
-            && fits_handles (after_grants (effects_in self.now) receiver nodes.now) receiver) }
-    {
-        self.state.inboxes.has_room(receiver) && self.state.grants.room(receiver, nodes)
-    }
-
-    /// Returns the numbers that a receiver has for these objects, granted in order.
-    fn numbers(&self, receiver: u32, nodes: &[Node]) -> ArrayVec<u32, MOST_REFS>
+    /// Returns whether a receiver has room for a delivery, and for handles to these objects. If so, appends the numbers
+    /// of the handles, granted in order, to an empty list.
+    fn has_room(
+        &self,
+        receiver: u32,
+        nodes: &[Node],
+        numbers: &mut ArrayVec<u32, MOST_REFS>,
+    ) -> bool
         requires live { is_live (effects_in self.now) receiver ≡ true }
         requires few { length nodes.now ≤ MOST_REFS }
-        ensures { result.items ≡ numbers_for (effects_in self.now) receiver nodes.now }
+        requires none { numbers.old.items ≡ [] }
+        ensures room { result ≡ (has_inbox_room (effects_in self.now) receiver
+            && fits_handles (after_grants (effects_in self.now) receiver nodes.now) receiver) }
+        ensures numbers { IsTrue result
+            → numbers.new.items ≡ numbers_for (effects_in self.now) receiver nodes.now }
     {
-        self.state.grants.numbers(receiver, nodes)
+        self.state.inboxes.has_room(receiver)
+            && self.state.grants.numbers_if_room(receiver, nodes, numbers)
     }
 
     /// Drafts a call that passes its checks.
@@ -279,21 +279,20 @@ impl Ledger {
         payload: &Payload,
         named: &[Option<Node>],
         nodes: &[Node],
+        numbers: &[u32],
         draft: &mut Draft,
     ) -> Checked<Outcome>
         requires row { row.now ≡ client_row (effects_in self.now) row.now.id }
-        requires live { is_live (effects_in self.now) target.owner.0 ≡ true }
-        requires few { length nodes.now ≤ MOST_REFS }
         requires foreign { nodes.now ≡ others target.owner.0 named.now }
+        requires numbers { numbers.now ≡ numbers_for (effects_in self.now) target.owner.0 nodes.now }
         requires blank { IsBlank draft.old }
         ensures { MatchResult result
             (Sends (effects_in self.now) row.now.id target payload.now named.now draft.old draft.new)
             (λ r. r ≡ spec.out_of_memory) }
     {
         let owner = target.owner.0;
-        let numbers = self.numbers(owner, nodes);
-        give(&mut draft.effects, owner, nodes, numbers.as_slice())?;
-        let given = given(self.alloc, owner, named, numbers.as_slice())?;
+        give(&mut draft.effects, owner, nodes, numbers)?;
+        let given = given(self.alloc, owner, named, numbers)?;
         let delivery = delivery(self.alloc, &row.process.who, target.object, payload, given)?;
         let outcome = Outcome::Sent(delivery.clone()?);
         draft.effects.push(Effect::Delivers {

@@ -34,9 +34,10 @@ impl Ledger {
         self.state.reserve(effects)
     }
 
-    /// Makes a change, for which there is room, and leaves the list of its effects empty. Allocates nothing.
+    /// Makes a change, for which there is room, and leaves the list of its effects empty. An object that is released has
+    /// the number `near`, most likely. Allocates nothing.
     #[inline(always)]
-    pub fn change(&mut self, entry: Entry, effects: &mut Vec<Effect>)
+    pub fn change(&mut self, entry: Entry, effects: &mut Vec<Effect>, near: u32)
         requires { MayChange self.old entry effects.old.items }
         ensures places { self.new.book.places ≡ self.old.book.places }
         ensures history { self.new.book.history ≡ entered entry self.old.book.history }
@@ -44,7 +45,7 @@ impl Ledger {
     {
         self.turns.count(entry.by);
         self.journal.push(entry);
-        self.state.apply_all(effects);
+        self.state.apply_all(effects, near);
     }
 
     /// Returns the view after a change with these effects. What they don't change is shared with the last view, which is

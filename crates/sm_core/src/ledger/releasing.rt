@@ -24,6 +24,7 @@ impl Ledger {
             return Err(failed(Failure::BadHandle));
         };
         draft.effects.push(Effect::Releases { client, node })?;
+        draft.near = handle;
         Ok(Outcome::Released)
     }
 }

@@ -26,9 +26,13 @@ returns-then-not-has_room c =
     let refs = rw c.list.ensures.value at c.in_ok-judge_references.ensures in
     let sound : Sound d = rw (← c.self.view_is) c.self.invariant.stands.sound in
     let full = rw (c.foreign-count.ensures.foreign, c.as_slice.ensures.value)
-    at (sym c.has_room.ensures ∙ c.if-not-has_room.true) in
+    at (sym c.has_room.ensures.room ∙ c.if-not-has_room.true) in
     rw c.failed.ensures (room_halts m _ _ _ d c.args.row.now.id c.args.handle c.in_ok-target.target c.args.refs.now
     c.judge_references.new.named.items target.0 target.1.0 sound target.1.1 refs.1 refs.0 full)
+
+pub send-requires-clause-numbers : goal.send-requires-clause-numbers
+send-requires-clause-numbers c =
+    c.as_slice-numbers.ensures.value ∙ c.has_room.ensures.numbers c.if-not-has_room.false
 
 pub returns : goal.returns
 returns c =
@@ -37,7 +41,7 @@ returns c =
     let refs = rw c.list.ensures.value at c.in_ok-judge_references.ensures in
     let sound : Sound d = rw (← c.self.view_is) c.self.invariant.stands.sound in
     let room = rw (c.foreign-count.ensures.foreign, c.as_slice.ensures.value)
-    at (sym c.has_room.ensures ∙ c.if-not-has_room.false) in
+    at (sym c.has_room.ensures.room ∙ c.if-not-has_room.false) in
     call_judged c.args.self.now.book.history _ _ _ _ c.args.row.now.id c.args.handle c.in_ok-target.target
     c.args.payload.now c.args.refs.now c.judge_references.new.named.items c.send.result target.0 target.1.0 sound
-    target.1.1 refs.1 refs.0 room c.requires.blank.1 (rw c.as_slice-2.ensures.value at c.send.ensures)
+    target.1.1 refs.1 refs.0 room c.requires.blank.1 (rw c.as_slice-named.ensures.value at c.send.ensures)

@@ -19,7 +19,7 @@ pub returns : goal.returns
 returns c =
     let d = effects_of c.args.self.now.book.history in
     let old = c.args.draft.now in
-    let mid : Draft = record { effects = c.push.new.self; records = c.judge_watching.new.notes; told = old.told } in (
+    let mid : Draft = record old { effects = c.push.new.self; records = c.judge_watching.new.notes } in (
       search rules,
       watch_drafted c.args.self.now.book.history c.args.row.now.id c.args.name.now c.args.object
           c.in-Some.service c.in_ok-watch.watch c.in_ok-made.made mid _ c.in_ok-notice.notice
@@ -33,7 +33,7 @@ pub returns-in_default : goal.returns-in_default
 returns-in_default c =
     let d = effects_of c.args.self.now.book.history in
     let old = c.args.draft.now in
-    let new : Draft = record { effects = c.push.new.self; records = c.judge_watching.new.notes; told = old.told } in (
+    let new : Draft = record old { effects = c.push.new.self; records = c.judge_watching.new.notes } in (
       c.in_ok-judge_watching.ensures.0,
       watch_alone (moment_of c.args.self.now.book.history) d c.args.row.now.id c.args.name.now c.args.object
           c.in_ok-made.made new

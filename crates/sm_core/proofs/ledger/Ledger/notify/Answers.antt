@@ -28,7 +28,7 @@ pub returns-in_ok-reason-in-Err : goal.returns-in_ok-reason-in-Err
 returns-in_ok-reason-in-Err c =
     let w = c.args.watch.now in
     let old = c.args.draft.now in
-    let new : Draft = record { effects = old.effects; records = old.records; told = c.judge_told.new.notes } in
+    let new : Draft = record old { told = c.judge_told.new.notes } in
     let it = tells_not c.args.self.now.book.history c.args.node w old new c.args.rooms.now c.left-left.result
     c.in-Err.reply c.in_ok-reason-in-Err.field-0 refl refl c.requires.notifications c.requires.live
     c.left-left.ensures c.in-Err.ensures c.in_ok-reason-in-Err.ensures.1 c.in_ok-reason-in-Err.ensures.0 in

@@ -1,11 +1,12 @@
-use Rattle.std.proofs.Common.{◌≡◌, ◌+◌, ◌-◌, Some, None, ◌∙◌, ap, get_or, arith}
+use Rattle.std.proofs.Common.{◌≡◌, ◌+◌, ◌-◌, Some, None, ◌∙◌, refl, sym, ap, get_or, arith}
 use Rattle.sm_kinds.specs.declared.number.Node.{Node}
 use Rattle.sm_history.proofs.Balanced.{node_same}
 use Rattle.sm_history.specs.Tables.{slot}
 use Rattle.sm_grants.specs.Slots.{node_of}
 use Rattle.sm_grants.specs.Rows.{slots_of}
 use Rattle.sm_history.specs.Effects.{same_node}
-use Rattle.sm_grants.proofs.Places.{place_is}
+use Rattle.sm_grants.proofs.Places.{place_is, place_among}
+use Rattle.sm_grants.proofs.Tracked.{in_slots}
 use Rattle.sm_grants.proofs.InOrder.{along_held, along_new}
 use Rattle.sm_grants.proofs.grants.Grants.number_behind.Goals as goal
 
@@ -36,3 +37,25 @@ returns-clause-step c t a =
     c.in_default.ensures.found
     (place_is (λ n. same_node n c.args.node) c.args.earlier.now c.args.node None c.in_default-node_index.ensures)
     c.free_from-free.ensures.behind c.free_from-free.ensures.free c.free_from-free.ensures.least
+
+pub returns-in-Some-clause-fresh : goal.returns-in-Some-clause-fresh
+returns-in-Some-clause-fresh c =
+    let s = slots_of c.args.self.now.rows.items c.args.client in
+    rw (sym (in_slots s c.args.node (Some c.in-Some.i) c.in-Some.ensures.found)) refl
+
+pub returns-in-Some-node_index-clause-fresh : goal.returns-in-Some-node_index-clause-fresh
+returns-in-Some-node_index-clause-fresh c =
+    let s = slots_of c.args.self.now.rows.items c.args.client in
+    rw (
+      sym (in_slots s c.args.node None c.in_default.ensures.found),
+      sym (place_among (λ n. same_node n c.args.node) c.args.earlier.now (Some c.in-Some-node_index.i)
+          c.in-Some-node_index.ensures),
+    ) refl
+
+pub returns-clause-fresh : goal.returns-clause-fresh
+returns-clause-fresh c =
+    let s = slots_of c.args.self.now.rows.items c.args.client in
+    rw (
+      sym (in_slots s c.args.node None c.in_default.ensures.found),
+      sym (place_among (λ n. same_node n c.args.node) c.args.earlier.now None c.in_default-node_index.ensures),
+    ) refl
