@@ -4,6 +4,7 @@ use Rattle.std.proofs.Common.{Some, None, refl, ap, sym, ◌∙◌, subst, lengt
 use Rattle.std.specs.Prelude.{nat_lt, unwrap_or}
 use Rattle.std.specs.List.{list_any}
 use Rattle.std.proofs.lemmas.Bool.{true≢false}
+use Rattle.std.proofs.lemmas.List.{append-nil}
 use Rattle.sm_kinds.specs.declared.number.Node.{Node}
 use Rattle.sm_kinds.specs.declared.number.ObjRef.{ObjRef}
 use Rattle.sm_history.specs.declared.event.Event.{Event}
@@ -81,6 +82,16 @@ none_notified d n draft rooms before none = record {
       ap (λ (o : Option ℕ). unwrap_or o (free_at d c)) (none c)
       ∙ ap (λ (v : List Delivery). MOST_DELIVERIES - length v) (sym (before.inboxes c));
 }
+
+-- A name without watches.
+pub none_told : (m : Moment) (d : Effects) (n : Node) (ws : List Watch) (draft : Draft) (made : List Notice)
+    → ws ≡ [] → made ≡ [] → MayPrecede d n draft.effects.items → TellsAll m d n ws draft draft made
+none_told m d n ws draft made nobody none before = rw nobody (record {
+  notices = none;
+  told = sym (append-nil draft.told.items);
+  records = refl;
+  tells = record { effects = refl; may = before.may.may; none_dies = before.may.none_dies };
+})
 
 -- An Add that was notified.
 pub add_drafted : (h : History) (c : ℕ) (name copy : List ℕ) (obj : ObjRef) (allow : Bool) (dump : ℕ)

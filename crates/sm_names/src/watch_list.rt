@@ -123,6 +123,9 @@ impl WatchList {
         ensures { (d : Effects) → TracksList d self.now.list.items
             → result.now ≡ watchers_at d name.now }
     {
+        if self.list.is_empty() {
+            return &[];
+        }
         watchers_of(&self.list, name)
     }
 

@@ -239,6 +239,9 @@ impl Ledger {
             notices.items)
             (λ r. r ≡ out_of_memory) }
     {
+        if watches.is_empty() {
+            return Ok(Vec::new(self.alloc));
+        }
         let mut notices = Vec::with_capacity(self.alloc, watches.len())?;
         let mut rooms = InboxRooms::new(self.alloc);
         for watch in watches {

@@ -1,4 +1,6 @@
-use Rattle.std.proofs.Common.{◌+◌, ◌∙◌, refl, drop, rules}
+use Rattle.std.proofs.Common.{◌≡◌, ◌+◌, ◌∙◌, refl, sym, drop, length, arith, rules}
+use Rattle.std.proofs.lemmas.Bool.Decides.{nat_tests}
+use Rattle.std.proofs.lemmas.List.{nil_from_length}
 use Rattle.std.proofs.lemmas.List.Elements.{All-drop}
 use Rattle.sm_history.specs.declared.effect.Watch.{Watch}
 use Rattle.sm_history.specs.Clients.{is_live}
@@ -7,7 +9,7 @@ use Rattle.sm_history.specs.Following.{followed}
 use Rattle.sm_history.specs.Records.{moment_of}
 use Rattle.sm_core.proofs.NotifyingAll.{records_further, live_further, notices_further, after_further}
 use Rattle.sm_core.proofs.ListSteps.{rest_from}
-use Rattle.sm_core.proofs.NotifyingDrafts.{none_notified}
+use Rattle.sm_core.proofs.NotifyingDrafts.{none_notified, none_told}
 use Rattle.sm_core.specs.Tables.{IsLabel}
 use Rattle.sm_core.proofs.ledger.Ledger.notify_each.Goals as goal
 
@@ -59,3 +61,12 @@ loop-watch-preserved c =
           c.loop-watch.invariant.told;
       records = on.records ∙ c.loop-watch.invariant.records;
     }
+
+pub returns-then-is_empty : goal.returns-then-is_empty
+returns-then-is_empty c =
+    let h = c.args.self.now.book.history in
+    let ws = c.args.watches.now in
+    let none = sym c.is_empty.ensures ∙ c.if-is_empty.true in
+    let zero : length ws ≡ 0 = grind (arith, nat_tests) in
+    none_told (moment_of h) (effects_of h) c.args.node ws c.args.draft.now c.new.result.items
+    (nil_from_length ws zero) c.new.ensures.items c.requires.before
