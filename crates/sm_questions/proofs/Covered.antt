@@ -1,6 +1,6 @@
 -- Rules that cover something that a filter leaves, by number and by name.
-use Rattle.std.proofs.Common.{◌≡◌, ◌∙◌, ℕ, zero, suc, ◌<◌, ◌≤◌, Bool, true, false, ◌&&◌, ◌||◌, List, [], ◌∷◌, length}
-use Rattle.std.proofs.Common.{get_or, nat_eq, refl, sym, ap, inl, inr, arith, true≢false, Option, Some, None}
+use Rattle.std.proofs.Common.{◌≡◌, ◌∙◌, ℕ, zero, suc, ◌<◌, Bool, true, false, ◌&&◌, List, [], ◌∷◌, length}
+use Rattle.std.proofs.Common.{get_or, refl, sym, inl, inr, arith, true≢false}
 use Rattle.std.specs.Prelude.{IsTrue}
 use Rattle.std.specs.List.{list_any}
 use Rattle.std.proofs.lemmas.Bool.{cases_lt}
@@ -8,13 +8,12 @@ use Rattle.std.proofs.lemmas.Bool.Decides.{nat_tests}
 use Rattle.std.proofs.lemmas.List.Folds.{list_any_at}
 use Rattle.sm_bits.specs.Bits.{has, has_bit}
 use Rattle.sm_ruletext.specs.declared.rule.Rule.{Rule}
-use Rattle.sm_types.specs.Names.{Name, at}
+use Rattle.sm_types.specs.Names.{at}
 use Rattle.sm_types.specs.Denoting.{types}
-use Rattle.sm_rules.specs.Access as access
-use Rattle.sm_rules.specs.Keeping.{class_at, perm_at, covers, joins, FitsRule, Says}
+use Rattle.sm_rules.specs.Keeping.{joins, FitsRule, Says}
 use Rattle.sm_rules.specs.declared.kept.Kept.{Kept}
 use Rattle.sm_policy.specs.Policy.{Policy}
-use Rattle.sm_questions.specs.Accesses.{is_left, perm_numbers}
+use Rattle.sm_questions.specs.Accesses.{perm_numbers}
 use Rattle.sm_questions.specs.Covering.{AreLeft, grants_at, joins_at}
 use Rattle.sm_questions.specs.RuleLines.{covers_left, covers_some}
 use Rattle.sm_questions.specs.declared.filtering.Filter.{Filter}

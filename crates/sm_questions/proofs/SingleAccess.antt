@@ -1,36 +1,28 @@
 -- Rules that are listed for a single access.
-use Rattle.std.proofs.Common.{◌≡◌, ◌∙◌, ℕ, zero, suc, ◌<◌, Bool, true, false, ◌&&◌, ◌||◌, List, [], ◌∷◌, ◌++◌, length}
-use Rattle.std.proofs.Common.{inl, inr, Option, Some, None, Ok, Err, is_some, refl, sym, ap, arith, cond, true≢false}
-use Rattle.std.specs.Prelude.{Result, codes, filter, find, option_map, slice_get, ◌==◌}
-use Rattle.std.specs.Int.{bit_at}
-use Rattle.std.specs.List.{filter_map, flat_map, list_any}
+use Rattle.std.proofs.Common.{◌≡◌, ◌∙◌, ℕ, zero, suc, ◌<◌, Bool, true, false, ◌&&◌, ◌||◌, List, [], ◌∷◌, ◌++◌}
+use Rattle.std.proofs.Common.{inl, inr, Option, Some, None, is_some, refl, sym, ap, arith, cond, true≢false}
+use Rattle.std.specs.Prelude.{filter, find, option_map, slice_get}
+use Rattle.std.specs.List.{flat_map, list_any}
 use Rattle.std.specs.Str.{bytes_eq}
 use Rattle.std.proofs.lemmas.Bool.{cases_eq, ne_eqb}
 use Rattle.std.proofs.lemmas.Slice.Eq.{bytes_eq-Decides}
 use Rattle.sm_bits.specs.Bits.{has_bit}
 use Rattle.sm_kinds.specs.declared.class.Class.{Class, TheVariants.ServiceManager, TheVariants.Binder}
 use Rattle.sm_kinds.specs.declared.perms.Perms.{Perms}
-use Rattle.sm_kinds.specs.Permissions.{bit, binder_word, class_read, perm_of, perm_read, service_manager_word}
-use Rattle.sm_kinds.specs.Reading.{◌>>=◌}
-use Rattle.sm_kinds.proofs.Readers.{went_well}
+use Rattle.sm_kinds.specs.Permissions.{bit, binder_word, perm_of, service_manager_word}
 use Rattle.sm_ruletext.specs.declared.rule.Rule.{Rule}
-use Rattle.sm_ruletext.specs.declared.statement.RuleKind.{RuleKind}
 use Rattle.sm_ruletext.specs.declared.statement.RuleKind.TheVariants.{Allow}
-use Rattle.sm_ruletext.specs.declared.statement.Statement.{Statement}
 use Rattle.sm_types.specs.Names.{Name}
 use Rattle.sm_types.specs.Denoting.{declares, types}
 use Rattle.sm_types.proofs.Accepted.{declares_type}
-use Rattle.sm_rules.specs.Access.{covers, covers_as}
-use Rattle.sm_rules.specs.Keeping.{class_at, perm_at, rule_in, rules_in}
+use Rattle.sm_rules.specs.Access.{covers}
+use Rattle.sm_rules.specs.Keeping.{class_at, perm_at, rules_in}
 use Rattle.sm_rules.proofs.Lines.{lines_of}
 use Rattle.sm_policy.specs.Policy.{Policy, written, written_at}
-use Rattle.sm_questions.specs.Accesses.{is_left, perm_numbers}
-use Rattle.sm_questions.specs.Filters.{filter_of}
-use Rattle.sm_questions.specs.RuleFilters.{rule_filter_of}
-use Rattle.sm_questions.specs.RuleLaws.{LeavesOne, options_for}
-use Rattle.sm_questions.specs.RuleLines.{asked_rule, covers_left, covers_some, listed_rules, rule_lines}
+use Rattle.sm_questions.specs.Accesses.{perm_numbers}
+use Rattle.sm_questions.specs.RuleLaws.{LeavesOne}
+use Rattle.sm_questions.specs.RuleLines.{covers_left, covers_some, listed_rules, rule_lines}
 use Rattle.sm_questions.specs.Shown.{shown_statement}
-use Rattle.sm_questions.specs.Words.{access_of}
 use Rattle.sm_questions.specs.declared.filtering.Filter.{Filter}
 use Rattle.sm_questions.specs.declared.rule_filter.RuleFilter.{RuleFilter}
 use Rattle.sm_questions.proofs.Written.{written_if}

@@ -1,13 +1,10 @@
 -- The source of a policy.
-use Rattle.std.proofs.Common.{◌≡◌, ◌∙◌, ℕ, List, Ok, Err, ap, refl}
-use Rattle.std.specs.Prelude.{Result}
-use Rattle.sm_kinds.specs.Reading.{◌>>=◌}
+use Rattle.std.proofs.Common.{◌≡◌, ◌∙◌, ℕ, List, Ok, ap, refl}
 use Rattle.sm_kinds.proofs.Readers.{went_well}
 use Rattle.sm_ruletext.specs.Statements as source
 use Rattle.sm_ruletext.specs.declared.statement.Statement.{Statement}
 use Rattle.sm_types.specs.Declaring.{symbols_of}
 use Rattle.sm_rules.specs.Faults.{first_fault}
-use Rattle.sm_policy.specs.declared.fault.PolicyFault.{PolicyFault}
 use Rattle.sm_policy.specs.Policy.{Policy}
 use Rattle.sm_policy.specs.Preparing.{Step, labels_of, of_access, of_text, of_types, prepared, refused_by}
 use Rattle.sm_policy.specs.Preparing.{rules_of, through, unbroken}

@@ -1,7 +1,7 @@
 -- From one statement to the next.
 use Rattle.std.proofs.Common.{◌≡◌, ◌∙◌, ℕ, zero, suc, ◌+◌, ◌<◌, ◌≤◌, Bool, true, false, List, [], ◌∷◌, ◌++◌, length}
 use Rattle.std.proofs.Common.{take, get_or, Option, Some, None, refl, sym, ap, arith, cond, option_and_then}
-use Rattle.std.proofs.Common.{length-append, min}
+use Rattle.std.proofs.Common.{length-append}
 use Rattle.std.proofs.lemmas.List.{length-take}
 use Rattle.std.specs.Prelude.{filter, slice_get}
 use Rattle.std.specs.List.{cons_option, filter_map, flat_map}

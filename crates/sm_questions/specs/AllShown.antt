@@ -1,5 +1,5 @@
 -- The statements of a policy source that its violations name.
-use Rattle.std.specs.Prelude.{ℕ, nat_eq, if◌then◌else◌, List, [], ◌∷◌, ◌++◌, Result, Ok, Err}
+use Rattle.std.specs.Prelude.{ℕ, nat_eq, if◌then◌else◌, List, [], ◌∷◌, ◌++◌, Ok, Err}
 use Rattle.std.specs.List.{flat_map, list_any}
 use Rattle.sm_policy.specs.Preparing.{Step}
 use Rattle.sm_policy.specs.declared.violation.Violation.{Violation}

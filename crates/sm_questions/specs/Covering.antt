@@ -1,5 +1,5 @@
 -- How the rules that are listed are found: by the numbers of types, and rule by rule.
-use Rattle.std.specs.Prelude.{◌≡◌, ◌<◌, ◌≤◌, ◌/◌, ◌+◌, ℕ, Bool, true, false, ◌&&◌, if◌then◌else◌, List, [], length}
+use Rattle.std.specs.Prelude.{◌≡◌, ◌<◌, ◌/◌, ◌+◌, ℕ, Bool, true, false, ◌&&◌, if◌then◌else◌, List, [], length}
 use Rattle.std.specs.Prelude.{Option, Some, None, IfSome, slice_get}
 use Rattle.sm_bits.specs.Bits.{has, has_bit}
 use Rattle.sm_ruletext.specs.declared.rule.Rule.{Rule}
@@ -8,7 +8,7 @@ use Rattle.sm_ruletext.specs.declared.statement.RuleKind.TheVariants.{Allow, Nev
 use Rattle.sm_ruletext.specs.declared.statement.Statement.{Statement}
 use Rattle.sm_types.specs.Names.{at}
 use Rattle.sm_types.specs.Denoting.{types}
-use Rattle.sm_rules.specs.Keeping.{covers, joins, rule_in, rules_in}
+use Rattle.sm_rules.specs.Keeping.{joins, rule_in, rules_in}
 use Rattle.sm_rules.specs.declared.kept.Kept.{Kept}
 use Rattle.sm_policy.specs.Policy.{Policy}
 use Rattle.sm_questions.specs.Accesses.{is_left}

@@ -1,5 +1,5 @@
 -- What `svcmgr rules` writes.
-use Rattle.std.specs.Prelude.{ℕ, Bool, true, false, ◌&&◌, List, filter, Option, Some, None}
+use Rattle.std.specs.Prelude.{ℕ, Bool, ◌&&◌, List, filter, Option, Some, None}
 use Rattle.std.specs.List.{filter_map, flat_map, list_any}
 use Rattle.std.specs.Option.{option_or}
 use Rattle.sm_bits.specs.Bits.{has_bit}

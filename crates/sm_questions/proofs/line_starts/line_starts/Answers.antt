@@ -1,4 +1,4 @@
-use Rattle.std.proofs.Common.{◌≡◌, ◌+◌, ◌-◌, ◌<◌, ◌≤◌, ◌∙◌, drop, length, length-drop, sym, ap, arith}
+use Rattle.std.proofs.Common.{◌+◌, ◌-◌, ◌<◌, ◌≤◌, ◌∙◌, drop, length, length-drop, sym, ap, arith}
 use Rattle.std.proofs.lemmas.List.{take_all}
 use Rattle.sm_questions.proofs.LineStarts.{no_lines, starts_more}
 use Rattle.sm_questions.proofs.line_starts.line_starts.Goals as goal

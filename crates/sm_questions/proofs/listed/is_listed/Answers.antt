@@ -1,4 +1,4 @@
-use Rattle.std.proofs.Common.{◌≡◌, ◌∙◌, length, true, Some, None, sym}
+use Rattle.std.proofs.Common.{◌≡◌, ◌∙◌, length, true, sym}
 use Rattle.sm_ruletext.specs.Kept.{is_kept}
 use Rattle.sm_types.specs.Denoting.{types}
 use Rattle.sm_rules.specs.Keeping.{FitsRule}
