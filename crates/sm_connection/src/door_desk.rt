@@ -10,13 +10,18 @@ use crate::monitor::Monitor;
 use crate::owned::{command_bytes, outcome_bytes};
 use crate::supervisor::Supervisor;
 use sm_history::{Outcome, Refusal, Reply};
+use sm_kinds::ClientId;
 use sm_session::{Command, Desk, Response};
 
 /// When a connection's desk calls the function beside it.
 #[derive(Clone, Copy)]
 pub enum Occasion {
     /// A client was connected.
-    Connected,
+    Connected(ClientId),
+    /// A delivery was taken.
+    Taken,
+    /// There was no delivery to take.
+    FoundEmpty,
     /// Another change was made, or one was refused because no slot was free or an allocation failed.
     Changed,
     /// Anything else was answered.
@@ -25,7 +30,9 @@ pub enum Occasion {
 
 fn occasion_of(response: &Response) -> Occasion {
     match response {
-        Response::Replied(Reply::Done(Outcome::Connected(_))) => Occasion::Connected,
+        Response::Replied(Reply::Done(Outcome::Connected(client))) => Occasion::Connected(*client),
+        Response::Replied(Reply::Done(Outcome::Taken(_))) => Occasion::Taken,
+        Response::Replied(Reply::Refused(Refusal::Empty)) => Occasion::FoundEmpty,
         Response::Replied(Reply::Done(_)) => Occasion::Changed,
         Response::Replied(Reply::Refused(Refusal::JournalFull)) => Occasion::Changed,
         Response::Replied(Reply::Refused(Refusal::Memory)) => Occasion::Changed,

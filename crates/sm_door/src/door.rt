@@ -172,7 +172,7 @@ impl<J: Naming, G: Gate + Drop> Door<J, G> {
         let mut guard = self.lock(rt);
         self.gate.inside();
         let locked = &mut *guard;
-        let answer = locked.connect(rt, seat, who);
+        let answer = locked.connect(rt, &self.gate, seat, who);
         MutexGuard::unlock(guard);
         answer
     }
@@ -188,7 +188,7 @@ impl<J: Naming, G: Gate + Drop> Door<J, G> {
         let mut guard = self.lock(rt);
         self.gate.inside();
         let locked = &mut *guard;
-        let answer = locked.act(rt, me, event);
+        let answer = locked.act(rt, &self.gate, me, event);
         MutexGuard::unlock(guard);
         answer
     }

@@ -27,7 +27,9 @@ use crate::session::Session;
 use crate::shared_view::SharedView;
 use left_right::Absorb;
 use sm_core::{Manager, Ready, ReadySeal, View};
-use sm_history::{By, Event, Failure, Record, Refusal, Reply, Segment, connected, moves};
+use sm_history::{
+    By, Effect, Event, Failure, Gate, Record, Refusal, Reply, Segment, connected, moves,
+};
 use sm_kinds::Identity;
 use std::alloc::{AllocError, Global};
 use std::marker::Model;
@@ -74,6 +76,16 @@ fn show_ready<J: Naming, R: Wait>(
     publisher.publish(rt, view)
 }
 
+/// Tells the gate which clients these effects of a published change deliver to.
+#[inline(always)]
+fn tell_deliveries<G: Gate>(gate: &G, effects: &[Effect]) {
+    for effect in effects {
+        if let Effect::Delivers { client, delivery: _ } = effect {
+            gate.deliver(*client);
+        }
+    }
+}
+
 /// Publishes what a seal leaves. On an error readers find what they found.
 fn show_sealed<J: Naming, R: Wait>(
     rt: &R,
@@ -106,9 +118,15 @@ impl<J: Naming> LockedManager<J> {
 
     /// Judges an event of an actor at its turn, and makes it if it is accepted: this is the one step of the manager. The
     /// token then sees the history that answered, unless an allocation failed or the event isn't its actor's. Returns
-    /// the event's audit records with the answer.
+    /// the event's audit records with the answer. The gate is told of the change's deliveries.
     #[inline(always)]
-    pub fn act<R: Wait>(&mut self, rt: &R, me: &mut Actor<J>, event: Event) -> (Reply, Vec<Record>)
+    pub fn act<R: Wait, G: Gate>(
+        &mut self,
+        rt: &R,
+        gate: &G,
+        me: &mut Actor<J>,
+        event: Event,
+    ) -> (Reply, Vec<Record>)
         ensures steps { Steps self.old.book me.old.by (turn me.old) event result.0 self.new.book }
         ensures ring { self.new.ring
             ≡ ring_after self.old.ring self.old.book me.old.by (turn me.old) event result.0 }
@@ -116,7 +134,7 @@ impl<J: Naming> LockedManager<J> {
         ensures logged { Logged me.old me.new event result.0 result.1.items }
         ensures by { me.new.by ≡ me.old.by }
     {
-        let (reply, records) = self.step(rt, me.by, me.due(), event);
+        let (reply, records) = self.step(rt, gate, me.by, me.due(), event);
         if !moves(&reply) {
             return (reply, records);
         }
@@ -126,9 +144,10 @@ impl<J: Naming> LockedManager<J> {
 
     /// Connects a process, by a change of the manager's, which is the one step. The seat sees the history before it. On
     /// error (`TooManyClients`, `JournalFull` or `Memory`) the seat comes back, and no change was made.
-    pub fn connect<R: Wait>(
+    pub fn connect<R: Wait, G: Gate>(
         &mut self,
         rt: &R,
+        gate: &G,
         seat: Seat<J>,
         who: Identity,
     ) -> Result<Session<J>, (Refusal, Seat<J>)>
@@ -140,7 +159,7 @@ impl<J: Naming> LockedManager<J> {
         let mut seat = seat;
         seat.actor.see(rt, self);
         let due = self.turn(By::Manager);
-        let (reply, _records) = self.step(rt, By::Manager, due, Event::Connect(who));
+        let (reply, _records) = self.step(rt, gate, By::Manager, due, Event::Connect(who));
         match connected(reply) {
             Ok(client) => {
                 seat.actor.see(rt, self);
@@ -207,7 +226,14 @@ impl<J: Naming> LockedManager<J> {
     /// One step of the manager, with the audit records that it adds to the ring. A change is published before it is
     /// committed: if it can't be published, nothing is committed and the answer is `Memory`.
     #[inline(always)]
-    fn step<R: Wait>(&mut self, rt: &R, by: By, turn: u64, event: Event) -> (Reply, Vec<Record>)
+    fn step<R: Wait, G: Gate>(
+        &mut self,
+        rt: &R,
+        gate: &G,
+        by: By,
+        turn: u64,
+        event: Event,
+    ) -> (Reply, Vec<Record>)
         ensures answers { Steps self.old.book by turn event result.0 self.new.book }
         ensures ring { self.new.ring ≡ ring_after self.old.ring self.old.book by turn event result.0 }
         ensures records { result.1.items ≡ step_leaves self.old.book by turn event result.0 }
@@ -217,7 +243,10 @@ impl<J: Naming> LockedManager<J> {
             Err(refused) => return refused,
         };
         match show_ready(rt, &self.manager, &mut self.publisher, &ready) {
-            Ok(()) => self.manager.commit(ready),
+            Ok(()) => {
+                tell_deliveries(gate, self.manager.drafted());
+                self.manager.commit(ready)
+            }
             Err(_) => {
                 self.manager.cancel(ready);
                 (Reply::Refused(Refusal::Memory), Vec::new(self.alloc))

@@ -1,6 +1,7 @@
-//! Gates, at which tests hold a session.
+//! Gates, which are called at points of sessions and changes.
 
-/// Called at points of a session, so that a test can hold the session there. Lines are numbered from 1 in each session.
+/// Called at points of a session and of a change, so that a test can hold it there, and a server can let a `take` wait
+/// for a delivery. Lines are numbered from 1 in each session. What a gate does changes no answer.
 pub trait Gate {
     /// The desk will be asked this line next.
     fn enter(&self, line: u64);
@@ -10,6 +11,12 @@ pub trait Gate {
 
     /// The answer to this line was written.
     fn leave(&self, line: u64);
+
+    /// The desk will be asked a `take` next, and the answers to all earlier lines were written.
+    fn before_take(&self) {}
+
+    /// A change that delivers something to this client was published. The manager's lock is held.
+    fn deliver(&self, _client: u32) {}
 }
 
 /// The gate of the program, which does nothing.

@@ -9,8 +9,8 @@ use crate::desk::Desk;
 use crate::responses::push_response;
 use crate::session_state::SessionState;
 use sm_engine::Machine;
-use sm_history::Gate;
-use sm_wire::{Item, Kind, Telling};
+use sm_history::{Event, Gate};
+use sm_wire::{Item, Kind, Request, Telling};
 use std::alloc::{AllocError, Global};
 use std::marker::Model;
 
@@ -54,6 +54,14 @@ impl<'a, D: Desk, G: Gate> GatedSession<'a, D, G> {
             gate,
             line: 0,
             unwritten: Vec::new(alloc),
+        }
+    }
+
+    // Lets the gate hold a `take` before it is asked. It isn't held while the client waits for other replies.
+    #[inline(always)]
+    fn hold_take(&self, request: &Request) {
+        if matches!(request, Request::Change(_, Event::Take)) && self.unwritten.len() == 1 {
+            self.gate.before_take();
         }
     }
 
@@ -104,6 +112,7 @@ impl<'a, D: Desk, G: Gate> Machine for GatedSession<'a, D, G> {
         self.gate.enter(self.line);
         match item {
             Item::Asked(request) => {
+                self.hold_take(&request);
                 let telling = request.telling();
                 let response = self.session_state.ask(request);
                 push_response(self.alloc, replies, telling, &response)
