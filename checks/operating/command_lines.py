@@ -31,6 +31,9 @@ def refused_command_lines(program):
         ["--socket", "s", "--admin", "a", "--audit-rate", "5"],
         ["--socket", "s", "--admin", "a", "--audit", "--audit-rate", "1000001"],
         ["--socket", "s", "--admin", "a", "--audit", "--audit-rate", "00"],
+        ["--socket", "s", "--admin", "a", "--take-wait", "60001"],
+        ["--socket", "s", "--admin", "a", "--take-wait", "-1"],
+        ["--socket", "s", "--admin", "a", "--take-wait", "01"],
     ]
     with room() as folder:
         for words in lines:

@@ -29,6 +29,7 @@ pub fn serve_client<
     H: Supervisor,
     L: AuditSink,
     R: Wait,
+    W: Gate,
     I: Read,
     O: Write,
 >(
@@ -39,6 +40,7 @@ pub fn serve_client<
     tend: B,
     monitor: &Monitor<H>,
     sink: L,
+    gate: &W,
     reader: &mut Counted<I>,
     writer: &mut Counted<O>,
     bound: u32,
@@ -63,6 +65,7 @@ pub fn serve_client<
         tend,
         monitor,
         sink,
+        gate,
         reader,
         writer,
         bound,

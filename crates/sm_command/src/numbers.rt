@@ -11,11 +11,12 @@ pub struct Number<'a> {
 }
 
 /// The options with numbers, by their ids and as the parser's messages name them.
-const OPTIONS: [(&str, &str); 5] = [
+const OPTIONS: [(&str, &str); 6] = [
     ("audit-rate", "--audit-rate <N>"),
     ("journal", "--journal <N>"),
     ("seal-at", "--seal-at <N>"),
     ("seal-bytes", "--seal-bytes <N>"),
+    ("take-wait", "--take-wait <MS>"),
     ("workers", "--workers <W>"),
 ];
 

@@ -23,7 +23,7 @@ pub enum Mode<'a> {
     /// refusal names is shown.
     Check { all: bool, show: bool },
     /// `svcmgr serve [--journal N] [--seal-at N] [--seal-bytes N] [--workers W] [--mode MODE] [--audit]
-    /// [--audit-rate N] --socket PATH --admin PATH RULES CONTEXTS`
+    /// [--audit-rate N] [--take-wait MS] --socket PATH --admin PATH RULES CONTEXTS`
     Serve(Sockets<'a>),
     /// `svcmgr label`, `explain`, `access` or `diff`
     Ask(Question<'a>),

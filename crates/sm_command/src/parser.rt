@@ -52,6 +52,7 @@ fn serve<'a>(alloc: Global) -> Building<'a> {
         .arg(permissions(alloc))
         .arg(audit(alloc))
         .arg(audit_rate(alloc))
+        .arg(take_wait(alloc))
         .arg(socket(alloc, "socket", "The clients' socket"))
         .arg(socket(alloc, "admin", "The administrators' socket"));
     with_files(alloc, serve)
@@ -255,6 +256,16 @@ fn audit_rate<'a>(alloc: Global) -> Arg<'a> {
         "Writes at most N audit lines a second, 0 to 1000000, and how many were left out; 0 is no limit [default: 0]",
     )
     .value_parser(value_parser!(u32).range(0..=1_000_000))
+}
+
+fn take_wait<'a>(alloc: Global) -> Arg<'a> {
+    word(
+        alloc,
+        "take-wait",
+        "MS",
+        "Lets a take wait for a delivery for MS milliseconds, 0 to 60000 [default: 0]",
+    )
+    .value_parser(value_parser!(u32).range(0..=60_000))
 }
 
 fn socket<'a>(alloc: Global, name: &'a str, help: &'a str) -> Arg<'a> {

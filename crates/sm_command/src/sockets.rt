@@ -30,6 +30,8 @@ pub struct Sockets<'a> {
     pub audit: bool,
     /// The number of audit lines that are written in a second, at most. 0: no limit.
     pub audit_rate: u32,
+    /// The milliseconds for which a `take` waits for a delivery, at most 60,000. 0: it doesn't wait.
+    pub take_wait: u32,
 }
 
 /// Returns the options of a server.
@@ -43,6 +45,7 @@ pub fn sockets_of<'a>(matches: &ArgMatches<'a>) -> Option<Sockets<'a>> {
         seal_bytes: bytes_to_seal_at(matches),
         audit: matches.get_flag("audit"),
         audit_rate: matches.get_one::<u32>("audit-rate").unwrap_or(0),
+        take_wait: matches.get_one::<u32>("take-wait").unwrap_or(0),
     })
 }
 

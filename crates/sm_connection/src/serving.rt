@@ -27,7 +27,8 @@ use std::sync::Wait;
 /// Serves a client's connection over any reader and writer, at this seat, or without one if there is none. Each allowed
 /// line is answered once, in order, from the history behind the door. That ends with the lines, with a `bye` that is
 /// answered by `bye`, with a fault, or after `bound` reads. The sink is given the audit records of each answer once, in
-/// order. Returns the seat, or the session of a client that couldn't die, and the sink.
+/// order. The gate is called at each line. Returns the seat, or the session of a client that couldn't die, and the
+/// sink.
 pub fn serve_client<
     J: Naming,
     G: Gate + Drop,
@@ -35,6 +36,7 @@ pub fn serve_client<
     H: Supervisor,
     L: AuditSink,
     R: Wait,
+    W: Gate,
     I: Read,
     O: Write,
 >(
@@ -45,6 +47,7 @@ pub fn serve_client<
     tend: B,
     monitor: &Monitor<H>,
     sink: L,
+    gate: &W,
     reader: &mut Counted<I>,
     writer: &mut Counted<O>,
     bound: u32,
@@ -70,7 +73,7 @@ pub fn serve_client<
         tend,
         monitor,
         sink,
-        door.gate(),
+        gate,
         reader,
         writer,
         bound,

@@ -80,7 +80,11 @@ fn show_ready<J: Naming, R: Wait>(
 #[inline(always)]
 fn tell_deliveries<G: Gate>(gate: &G, effects: &[Effect]) {
     for effect in effects {
-        if let Effect::Delivers { client, delivery: _ } = effect {
+        if let Effect::Delivers {
+            client,
+            delivery: _,
+        } = effect
+        {
             gate.deliver(*client);
         }
     }

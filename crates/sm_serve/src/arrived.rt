@@ -10,11 +10,13 @@ use crate::shared_admin::SharedAdmin;
 use crate::turned_away::TurnedAway;
 use crate::visitor::Lobby;
 use sm_account::{Account, Chronicle, Monitor, Supervisor};
+use sm_bells::{Bells, Doorstep};
 use sm_door::{Admin, Door, Naming, Seat, SeatOrSession};
 use sm_history::Gate;
 use sm_kinds::drop_fields;
 use std::alloc::{AllocError, Global};
 use std::net::Shutdown;
+use std::os::fd::AsRawFd;
 use std::os::unix::net::UnixStream;
 use std::rt::Clock;
 use std::sync::{Arc, Wait};
@@ -90,7 +92,7 @@ impl Guest {
         turned.count();
     }
 
-    /// Serves it as a client's, and adds it and its pages to the account.
+    /// Serves it as a client's, and adds it and its pages to the account. A `take` waits for its bell, if there is one.
     pub fn attend_client<J: Naming, K: Chronicle, G: Gate + Drop, H: Operator, R: Wait + Clock>(
         self,
         rt: &R,
@@ -102,12 +104,14 @@ impl Guest {
         monitor: &Monitor<H>,
         patience: Patience,
         queue: &Queue,
+        bells: Option<&Bells>,
     ) -> Account<SeatOrSession<J>, K> {
         let Guest { stream } = self;
+        let step = Doorstep::new(rt, door.gate(), bells, stream.as_raw_fd());
         let input = NotedRead::new(&*stream, account.page());
         let output = NotedWrite::new(&*stream, account.page());
         let (mut account, input, output) = attend_client(
-            rt, alloc, door, account, sealer, host, monitor, patience, queue, input, output,
+            rt, alloc, door, account, sealer, host, monitor, patience, queue, &step, input, output,
         );
         account.keep(input.into_page(), output.into_page());
         account

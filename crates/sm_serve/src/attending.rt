@@ -16,6 +16,7 @@ use crate::visitor::{Lobby, Visitor};
 use sm_account::{
     Account, Chronicle, Monitor, Occasion, Supervisor, at_rest, serve_administrator, serve_client,
 };
+use sm_bells::Doorstep;
 use sm_door::{Admin, Door, Naming, Seat, SeatOrSession};
 use sm_engine::{Counted, Fault};
 use sm_history::Gate;
@@ -25,9 +26,10 @@ use std::rt::Clock;
 use std::sync::Wait;
 use std::time::Instant;
 
-/// Serves a client's connection at a worker's seat, and adds it to the worker's account. After each change the journal
-/// is sealed if it is due; an answer to a read never waits for that. Returns the account with the seat, or with the session of a
-/// client that couldn't die, and both ends of the connection. If the time can't be read or limited, nothing is served.
+/// Serves a client's connection at a worker's seat, and adds it to the worker's account. A `take` may wait at the step.
+/// After each change the journal is sealed if it is due; an answer to a read never waits for that. Returns the account
+/// with the seat, or with the session of a client that couldn't die, and both ends of the connection. If the time can't
+/// be read or limited, nothing is served.
 pub fn attend_client<
     J: Naming,
     K: Chronicle,
@@ -46,6 +48,7 @@ pub fn attend_client<
     monitor: &Monitor<H>,
     patience: Patience,
     queue: &Queue,
+    step: &Doorstep<'_, G, R>,
     input: I,
     output: O,
 ) -> (Account<SeatOrSession<J>, K>, I, O)
@@ -59,7 +62,7 @@ pub fn attend_client<
         return (at_rest(account), input, output);
     };
     let attended = attend_stream(
-        rt, alloc, door, account, sealer, host, monitor, &pace, input, output,
+        rt, alloc, door, account, sealer, host, monitor, &pace, step, input, output,
     );
     seal_if_due(rt, door, sealer, monitor);
     attended
@@ -83,6 +86,7 @@ fn attend_stream<
     host: &H,
     monitor: &Monitor<H>,
     pace: &Pace<'_, R>,
+    step: &Doorstep<'_, G, R>,
     input: I,
     output: O,
 ) -> (Account<SeatOrSession<J>, K>, I, O)
@@ -97,19 +101,26 @@ fn attend_stream<
         door,
         account,
         |occasion| {
-            if matches!(occasion, Occasion::Connected) {
-                pace.connect();
-                host.reach(Milestone::Connected);
+            match occasion {
+                Occasion::Connected(client) => {
+                    pace.connect();
+                    step.connect(client.0);
+                    host.reach(Milestone::Connected);
+                }
+                Occasion::Taken => step.take(),
+                Occasion::FoundEmpty => step.find_empty(),
+                Occasion::Changed | Occasion::Answered => {}
             }
             if pace.nears_the_last_read() {
                 host.reach(Milestone::AlmostAllReads);
             }
-            if !matches!(occasion, Occasion::Answered) {
+            if is_change(occasion) {
                 seal_if_due(rt, door, sealer, monitor);
             }
         },
         monitor,
         monitor.sink(),
+        step,
         &mut reader,
         &mut writer,
         READS,
@@ -121,6 +132,11 @@ fn attend_stream<
     let input = reader.into_inner().into_inner().into_inner();
     let output = writer.into_inner().into_inner().into_inner();
     (account, input, output)
+}
+
+// Returns whether a change was made, or was refused because no slot was free or an allocation failed: a seal may be due.
+fn is_change(occasion: Occasion) -> bool {
+    !matches!(occasion, Occasion::FoundEmpty | Occasion::Answered)
 }
 
 // A session ends early where its requests or replies find no memory.
@@ -173,7 +189,7 @@ pub fn attend_administrator<
         door,
         account,
         |occasion| {
-            if !matches!(occasion, Occasion::Answered) {
+            if is_change(occasion) {
                 seal_if_due(rt, door, sealer, monitor);
             }
         },

@@ -7,16 +7,18 @@ use crate::console::{Console, Entrances};
 use crate::passed::Passed;
 use crate::sockets::{Claim, OWNER_ALONE};
 use sm_account::{Account, Forgets};
+use sm_bells::{Bells, Ringer};
 use sm_command::{Ending, Sockets};
 use sm_connection::SealAt;
 use sm_core::manager_identity;
 use sm_door::{Admin, Door, Naming, Seat, UnnamedRegistry};
 use sm_engine::ServeFault;
-use sm_history::{MOST_CLIENTS, NoGate};
+use sm_history::MOST_CLIENTS;
 use sm_kinds::{Identity, Places};
 use sm_policy::Prepared;
 use sm_script::ScriptFault;
 use sm_serve::{Numbers, Patience, serve};
+use std::alloc::Global;
 use std::marker::Brand;
 use std::os::unix::net::UnixListener;
 use std::rt::{Clock, Files, Net};
@@ -66,8 +68,10 @@ fn open<'a, J: Naming + Send + Sync, R: Files + Net + Threads + Wait + Clock + S
     let alloc = host.alloc();
     let slots = places.entries();
     let clients = MOST_CLIENTS.min(sockets.workers as usize);
-    let opened = Door::<J, NoGate>::open_for(
-        rt, alloc, unnamed, who, policy, places, NoGate, clients,
+    let bells = bells_of(alloc, &sockets)?;
+    let ringer = Ringer::new(bells.as_ref());
+    let opened = Door::<J, Ringer<'_>>::open_for(
+        rt, alloc, unnamed, who, policy, places, ringer, clients,
     );
     let (door, seats, mut admins) = match opened {
         Ok(parts) => parts,
@@ -89,6 +93,17 @@ fn open<'a, J: Naming + Send + Sync, R: Files + Net + Threads + Wait + Clock + S
     let ended = listen(host, rt, &door, tokens, slots, sockets, passed);
     door.close(rt);
     ended
+}
+
+/// Makes a bell for each worker, if a `take` is to wait.
+fn bells_of<'a>(alloc: Global, sockets: &Sockets<'a>) -> Result<Option<Bells>, Ending<'a>> {
+    if sockets.take_wait == 0 {
+        return Ok(None);
+    }
+    match Bells::new(alloc, sockets.workers, sockets.take_wait) {
+        Ok(bells) => Ok(Some(bells)),
+        Err(error) => Err(Ending::of_file(sockets.clients, error)),
+    }
 }
 
 /// The tokens of a server: for clients' connections, for administrators', for its own seals, and for what became of all.
@@ -134,7 +149,7 @@ fn open_socket<'a, R: Files + Net>(
 fn listen<'a, J: Naming + Send + Sync, R: Files + Net + Threads + Wait + Clock + Sync>(
     host: &HostRuntime,
     rt: &R,
-    door: &Door<J, NoGate>,
+    door: &Door<J, Ringer<'_>>,
     tokens: Tokens<J>,
     slots: u32,
     sockets: Sockets<'a>,
@@ -170,7 +185,7 @@ fn remove<R: Files>(rt: &R, claim: Option<Claim>) {
 fn serve_at<'a, J: Naming + Send + Sync, R: Threads + Wait + Clock + Sync>(
     host: &HostRuntime,
     rt: &R,
-    door: &Door<J, NoGate>,
+    door: &Door<J, Ringer<'_>>,
     tokens: Tokens<J>,
     slots: u32,
     sockets: Sockets<'a>,
@@ -211,7 +226,7 @@ fn serve_under<'a, J: Naming + Send + Sync, R: Threads + Wait + Clock + Sync>(
     host: &HostRuntime,
     rt: &R,
     console: &Console<R>,
-    door: &Door<J, NoGate>,
+    door: &Door<J, Ringer<'_>>,
     tokens: Tokens<J>,
     numbers: Numbers,
     entrances: Entrances,
@@ -239,6 +254,7 @@ fn serve_under<'a, J: Naming + Send + Sync, R: Threads + Wait + Clock + Sync>(
         gathered,
         sealer,
         numbers,
+        door.gate().bells(),
     );
     match ended {
         Ok(()) => Ok(()),
