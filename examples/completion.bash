@@ -5,7 +5,7 @@ _svcmgr() {
     case "$command" in
         run) options="--journal --help" ;;
         check) options="--all --show --help" ;;
-        serve) options="--journal --seal-at --seal-bytes --workers --mode --audit --audit-rate --socket --admin --help" ;;
+        serve) options="--journal --seal-at --seal-bytes --workers --mode --audit --audit-rate --take-wait --socket --admin --help" ;;
         label) options="--help" ;;
         explain) options="--name --help" ;;
         access) options="--source --target --name --class --perm --help" ;;

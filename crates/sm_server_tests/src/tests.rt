@@ -6,3 +6,4 @@ mod operations;
 mod remembers;
 mod server;
 mod steps;
+mod waiting;

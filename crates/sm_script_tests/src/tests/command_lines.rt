@@ -29,6 +29,7 @@ const SOCKETS: Sockets = Sockets {
     seal_bytes: Some(67_108_864),
     audit: false,
     audit_rate: 0,
+    take_wait: 0,
 };
 
 const ANY_ACCESS: FilterWords = FilterWords {
@@ -73,13 +74,14 @@ const ACCEPTED: &[(&str, Mode, u32)] = &[
         1_048_576,
     ),
     (
-        "svcmgr serve --workers 64 --journal 4 --seal-at 2 --admin a --socket s --audit --mode 0660 --audit-rate 5 r c",
+        "svcmgr serve --workers 64 --journal 4 --seal-at 2 --admin a --socket s --audit --mode 0660 --audit-rate 5 --take-wait 60000 r c",
         Mode::Serve(Sockets {
             workers: 64,
             mode: Some(0o660),
             seal_at: Some(2),
             audit: true,
             audit_rate: 5,
+            take_wait: 60_000,
             ..SOCKETS
         }),
         4,
@@ -327,6 +329,8 @@ const REFUSED: &[(ErrorKind, &[&str])] = &[
             "svcmgr serve --audit-rate 5 --socket s --admin a r c",
             "svcmgr serve --audit --audit-rate 1000001 --socket s --admin a r c",
             "svcmgr serve --audit --audit-rate 00 --socket s --admin a r c",
+            "svcmgr serve --take-wait 60001 --socket s --admin a r c",
+            "svcmgr serve --take-wait +1 --socket s --admin a r c",
             "svcmgr admin --admin  version",
             "svcmgr admin explain app svc binder call\nseal",
         ],

@@ -373,6 +373,7 @@ fn serves<
         gathered,
         sealer,
         numbers,
+        None,
     );
     let said = talking.join(rt);
     let chronicle = account.into_chronicle();

@@ -54,7 +54,7 @@ const READS: u32 = 10;
 
 /// Counts what isn't an answer alone: a journal is sealed then, if it is due.
 fn count(changes: &Cell<u32>, occasion: Occasion) {
-    if !matches!(occasion, Occasion::Answered) {
+    if !matches!(occasion, Occasion::FoundEmpty | Occasion::Answered) {
         changes.set(changes.get().wrapping_add(1));
     }
 }
@@ -82,6 +82,7 @@ fn client_told<'a, J: Naming, R: Wait + Abort>(
         |occasion| count(&counted, occasion),
         monitor,
         sink,
+        door.gate(),
         &mut reader,
         &mut writer,
         READS,
