@@ -12,7 +12,7 @@ use Rattle.sm_script.specs.declared.script_fault.ScriptFault.{ScriptFault}
 use Rattle.sm_script.specs.declared.script_fault.ScriptFault.TheVariants.{Policy, Opening, Engine}
 use Rattle.sm_engine.specs.declared.serve_fault.ServeFault.{ServeFault}
 use Rattle.sm_engine.specs.declared.serve_fault.ServeFault.TheVariants as serving
-use Rattle.sm_check.specs.Checking.{refused_line}
+use Rattle.sm_questions.specs.Checking.{refused_line}
 use Rattle.sm_questions.specs.Words.{unknown_words}
 use Rattle.sm_questions.specs.declared.unknown.Unknown.{Unknown}
 use Rattle.sm_command.specs.declared.ending.Ending.{Ending}

@@ -5,10 +5,10 @@ ghost use Rattle.std.specs.IoError.{error_kind};
 ghost use Rattle.sm_command.specs.Endings as spec;
 ghost use Rattle.sm_command.specs.Endings.{Tells};
 
-use sm_check::refused_line;
 use sm_engine::{Fault, ServeFault};
 use sm_history::{Denial, Refusal};
 use sm_kinds::{Class, Perms, push_access};
+use sm_questions::refused_line;
 use sm_script::ScriptFault;
 use std::alloc::{AllocError, Global};
 use std::io::{self, ErrorKind};

@@ -9,7 +9,7 @@ use Rattle.sm_policy.specs.Policy.{Policy}
 use Rattle.sm_policy.specs.Preparing.{prepared}
 use Rattle.sm_policy.specs.declared.violation.Violation.{Violation}
 use Rattle.sm_policy.specs.declared.fault.PolicyFault.{PolicyFault, TheVariants.Neverallow}
-use Rattle.sm_check.specs.Checking.{checked_line, refusal_in}
+use Rattle.sm_questions.specs.Checking.{checked_line, refusal_in}
 use Rattle.sm_violations.specs.Listing.{violations_in}
 use Rattle.sm_questions.specs.Buffered.{Passes, Stops}
 use Rattle.sm_questions.specs.Judged.{is_broken, judged_lines, verdict_lines, violation_line, violation_lines}

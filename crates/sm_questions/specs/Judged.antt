@@ -6,7 +6,7 @@ use Rattle.sm_policy.specs.Policy.{Policy}
 use Rattle.sm_policy.specs.Preparing.{Step, prepared}
 use Rattle.sm_policy.specs.declared.violation.Violation.{Violation}
 use Rattle.sm_policy.specs.declared.fault.PolicyFault.{PolicyFault, TheVariants.Neverallow}
-use Rattle.sm_check.specs.Checking.{accepted_line, refused_line}
+use Rattle.sm_questions.specs.Checking.{accepted_line, refused_line}
 use Rattle.sm_violations.specs.Listing.{violations_in}
 
 -- This is the line for a violation.

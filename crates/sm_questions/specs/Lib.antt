@@ -1,6 +1,7 @@
 pub mod Accesses
 pub mod AllShown
 pub mod Buffered
+pub mod Checking
 pub mod Covering
 pub mod Differences
 pub mod Explanations

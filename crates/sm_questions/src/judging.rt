@@ -5,13 +5,13 @@ ghost use Rattle.std.specs.List.{flat_map};
 ghost use Rattle.std.specs.Io.KnownBytes.{Appends};
 ghost use Rattle.sm_engine.specs.Counts.{Reports, failures_of, inner_of, greatest_count};
 ghost use Rattle.sm_policy.specs.Preparing.{prepared};
-ghost use Rattle.sm_check.specs.Checking.{refusal_in};
+ghost use Rattle.sm_questions.specs.Checking.{refusal_in};
 ghost use Rattle.sm_violations.specs.Listing.{violations_in};
 ghost use Rattle.sm_questions.specs.Buffered.{Fails, Passes, Stops};
 ghost use Rattle.sm_questions.specs.Judged as spec;
 
 use crate::buffer::write_full;
-use sm_check::{judge, refused_line};
+use crate::checking::{judge, refused_line};
 use sm_engine::{Counted, Fault, write_whole};
 use sm_policy::{PolicyFault, Violation};
 use sm_violations::Violations;
@@ -75,7 +75,7 @@ fn is_broken(refusal: &Option<PolicyFault>) -> bool
     matches!(refusal, Some(PolicyFault::Neverallow(_)))
 }
 
-/// Writes a line as [`check`](sm_check::check) does; of a policy source that breaks neverallow rules, a line for each
+/// Writes a line as [`check`](crate::check) does; of a policy source that breaks neverallow rules, a line for each
 /// of these with each allow rule that breaks it. Returns the refusal of the policy, if it is refused.
 ///
 /// The lines are in the order of the neverallow rules, and for each of these in that of the allow rules. Each has the

@@ -1,8 +1,9 @@
-//! Answers to questions about a policy: the label of a name, the rule that grants an access, the accesses of a policy,
-//! and its rules.
+//! The verdict on a policy, and answers to questions about it: the label of a name, the rule that grants an access, the
+//! accesses of a policy, and its rules.
 #![tactic(auto)]
 
 mod buffer;
+mod checking;
 mod comparing;
 mod explaining;
 mod filtering;
@@ -30,6 +31,7 @@ mod tests;
 mod type_numbers;
 mod unknown;
 
+pub use checking::{Verdict, check, judge, refused_line};
 pub use comparing::diff;
 pub use explaining::explain;
 pub use filtering::{Filter, FilterOptions, Target, read_filter};

@@ -2,10 +2,9 @@
 
 use crate::pipe::Pipe;
 use crate::text_of;
-use sm_check::check;
 use sm_command::{Ending, Options};
 use sm_engine::{Counted, Fault};
-use sm_questions::{all_shown_lines, check_all, shown_lines};
+use sm_questions::{all_shown_lines, check, check_all, shown_lines};
 use std::alloc::AllocError;
 use std::io::Write;
 use std::process::ExitCode;

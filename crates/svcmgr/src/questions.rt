@@ -5,7 +5,6 @@ ghost use Rattle.sm_policy.specs.Preparing.{rules_of};
 
 use crate::pipe::Pipe;
 use crate::{fail, text_of};
-use sm_check::refused_line;
 use sm_command::{
     AccessWords, Ending, FilterWords, NO_MEMORY, NewFiles, Options, Question, RuleFilterWords,
     TargetWord, unknown_line,
@@ -15,7 +14,7 @@ use sm_kinds::Word;
 use sm_policy::{PolicyFault, Prepared};
 use sm_questions::{
     FilterOptions, RuleOptions, Target, Unknown, access, diff, explain, label, read_access,
-    read_filter, read_rule_filter, rules,
+    read_filter, read_rule_filter, refused_line, rules,
 };
 use std::process::ExitCode;
 

@@ -4,7 +4,7 @@ ghost use Rattle.std.specs.Prelude.{◌≡◌, ◌<◌, ℕ, IfOk, OnOk, take};
 ghost use Rattle.std.specs.Io.KnownBytes.{Appends};
 ghost use Rattle.sm_engine.specs.Counts.{Reports, failures_of, inner_of, greatest_count};
 ghost use Rattle.sm_policy.specs.Preparing.{prepared};
-ghost use Rattle.sm_check.specs.Checking as spec;
+ghost use Rattle.sm_questions.specs.Checking as spec;
 
 use sm_engine::{Counted, Fault, write_whole};
 use sm_kinds::push_numbered;
