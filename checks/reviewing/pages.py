@@ -14,7 +14,7 @@ from reviewing.repository import RUST, Key
 # The pages, in the order in which they are read: what an earlier one has is only named in a later one.
 PAGES = {
     "verdict": ["sm_history::Verdict::verdict"],
-    "check": ["sm_check::checking::check", "sm_questions::judging::check_all"],
+    "check": ["sm_questions::checking::check", "sm_questions::judging::check_all"],
     "questions": [
         "sm_questions::labelling::label",
         "sm_questions::explaining::explain",

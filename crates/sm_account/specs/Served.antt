@@ -7,8 +7,8 @@ use Rattle.sm_history.specs.Tokens.{Knows}
 use Rattle.sm_wire.specs.declared.kind.Kind.{Kind}
 use Rattle.sm_wire.specs.declared.kind.Kind.TheVariants.{Client, Admin, Script}
 use Rattle.sm_engine.specs.declared.fault.Fault.{Fault}
-use Rattle.sm_session.specs.Desks.{DeskAnswers, DeskDeath}
-use Rattle.sm_session.specs.Sessions.{Attends}
+use Rattle.sm_connection.specs.Desks.{DeskAnswers, DeskDeath}
+use Rattle.sm_connection.specs.Sessions.{Attends}
 use Rattle.sm_connection.specs.Connections.{AdminGives, ClientGives, GoesOn}
 use Rattle.sm_connection.specs.Held.{Puts, holding}
 

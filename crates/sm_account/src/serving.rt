@@ -3,7 +3,7 @@
 ghost use Rattle.std.specs.Prelude.{◌≡◌, ◌<◌, ◌-◌};
 ghost use Rattle.sm_engine.specs.Counts.{failures_of, calls_of, inner_of, greatest_count};
 ghost use Rattle.sm_wire.specs.declared.kind.Kind.TheVariants.{Client as AsClient, Admin as AsAdmin};
-ghost use Rattle.sm_session.specs.Sessions.{Counts};
+ghost use Rattle.sm_connection.specs.Sessions.{Counts};
 ghost use Rattle.sm_connection.specs.Connections.{GoesOn};
 ghost use Rattle.sm_account.specs.Served.{visit, with_served};
 

@@ -27,18 +27,18 @@ use Rattle.sm_wire.specs.declared.item.Item.{Item}
 use Rattle.sm_wire.specs.declared.item.Item.TheVariants as items
 use Rattle.sm_wire.specs.declared.kind.Kind.TheVariants.{Admin as Admins, Client as Clients}
 use Rattle.sm_engine.specs.declared.fault.Fault.{Fault}
-use Rattle.sm_session.specs.Sessions.{Attends}
-use Rattle.sm_session.specs.declared.response.Response.{Response}
-use Rattle.sm_session.specs.declared.response.Response.TheVariants.{Replied, PolicyRefused, Denied}
-use Rattle.sm_session.specs.declared.command.Command.{Command}
-use Rattle.sm_session.specs.declared.command.Command.TheVariants.{Hello, Line, Install, Death}
+use Rattle.sm_connection.specs.Sessions.{Attends}
+use Rattle.sm_connection.specs.declared.response.Response.{Response}
+use Rattle.sm_connection.specs.declared.response.Response.TheVariants.{Replied, PolicyRefused, Denied}
+use Rattle.sm_connection.specs.declared.command.Command.{Command}
+use Rattle.sm_connection.specs.declared.command.Command.TheVariants.{Hello, Line, Install, Death}
 use Rattle.sm_connection.specs.Connections.{AdminAnswers, AdminGives, AdminGivesLine, AdminInstalls, AdminReads}
 use Rattle.sm_connection.specs.Connections.{AdminReplies, AdminSeals, AdminTold}
 use Rattle.sm_connection.specs.Connections.{ClientReplies, GivesChange, GivesHello, GivesDeath}
 use Rattle.sm_connection.specs.Connections.{GivesLine, GivesLook, Greets, OfSession, DiesAtDoor, Reads, SaysOnly}
 use Rattle.sm_connection.specs.Connections.{SaysUnrecorded}
 use Rattle.sm_connection.specs.Connections.{ClientGives, ComesAfter, SeatOr, GoesOn, StillHolds}
-use Rattle.sm_session.specs.Desks.{DeskAnswers, DeskDeath, command_of}
+use Rattle.sm_connection.specs.Desks.{DeskAnswers, DeskDeath, command_of}
 use Rattle.sm_connection.specs.Held.{Holding, Puts}
 use Rattle.sm_connection.specs.Growing.{AdminsSeeMore, ClientsSeeMore}
 use Rattle.sm_connection.proofs.Lasting.{attends_keeps}

@@ -7,10 +7,10 @@ use Rattle.sm_wire.specs.declared.kind.Kind.{Kind}
 use Rattle.sm_engine.specs.declared.fault.Fault.{Fault}
 use Rattle.sm_engine.specs.declared.fault.Fault.TheVariants.{ReadFault, WriteFault, TooManyReads, LineTooLong, Memory}
 use Rattle.sm_engine.specs.Running.{AnswersAll, ByResult, CaughtUp, Ended, Fronts, Runs, Stopped, StopsEarly, Wrote}
-use Rattle.sm_session.specs.declared.response.Response.{Response}
-use Rattle.sm_session.specs.declared.session_state.SessionState.{SessionState}
-use Rattle.sm_session.specs.Sessions.{AnswersItem, AsksOnce, Attends, SaysOnly, begins, held_limit, is_asked, is_over}
-use Rattle.sm_session.specs.Sessions.{said_to}
+use Rattle.sm_connection.specs.declared.response.Response.{Response}
+use Rattle.sm_connection.specs.declared.session_state.SessionState.{SessionState}
+use Rattle.sm_connection.specs.Sessions.{AnswersItem, AsksOnce, Attends, SaysOnly, begins, held_limit, is_asked, is_over}
+use Rattle.sm_connection.specs.Sessions.{said_to}
 
 either : (b : Bool) {P Q R : Type 0} → (P → R) → (Q → R) → MatchBool b P Q → R
 either true p q x = p x

@@ -2,3 +2,4 @@ mod Growing
 mod Lasting
 mod Reading
 mod Seen
+mod SessionLemmas

@@ -8,11 +8,11 @@ use Rattle.sm_engine.specs.declared.fault.Fault.TheVariants.{ReadFault, WriteFau
 use Rattle.sm_engine.specs.Running.{Runs, Wrote, CaughtUp, Stopped, LastRead, Ended, AnswersAll, Fronts}
 use Rattle.sm_engine.specs.Running.{ByResult}
 use Rattle.sm_wire.specs.declared.item.Item.TheVariants as items
-use Rattle.sm_session.specs.declared.response.Response.{Response}
-use Rattle.sm_session.specs.declared.session_state.SessionState.{SessionState}
-use Rattle.sm_session.specs.Desks.{Answers, DeskAnswers, DeskDeath}
-use Rattle.sm_session.specs.Sessions.{AnswersItem, AsksOnce, Attends, SaysOnly}
-use Rattle.sm_session.specs.Sessions.{begins, held_limit, is_asked, is_over, said_to}
+use Rattle.sm_connection.specs.declared.response.Response.{Response}
+use Rattle.sm_connection.specs.declared.session_state.SessionState.{SessionState}
+use Rattle.sm_connection.specs.Desks.{Answers, DeskAnswers, DeskDeath}
+use Rattle.sm_connection.specs.Sessions.{AnswersItem, AsksOnce, Attends, SaysOnly}
+use Rattle.sm_connection.specs.Sessions.{begins, held_limit, is_asked, is_over, said_to}
 
 by_cases : (b : Bool) {P Q R T : Type 0} → (P → R) → (Q → T) → MatchBool b P Q → MatchBool b R T
 by_cases true p q x = p x

@@ -23,10 +23,10 @@ use Rattle.sm_door.specs.Logged.{Logged, ReadLogged}
 use Rattle.sm_wire.specs.declared.request.Request.{Request}
 use Rattle.sm_wire.specs.declared.request.Request.TheVariants.{Change, Look, Denials, Seal}
 use Rattle.sm_wire.specs.declared.request.Request.TheVariants as requests
-use Rattle.sm_session.specs.declared.response.Response.{Response}
-use Rattle.sm_session.specs.declared.response.Response.TheVariants.{Replied, PolicyRefused, Denied}
-use Rattle.sm_session.specs.declared.command.Command.{Command}
-use Rattle.sm_session.specs.declared.command.Command.TheVariants.{Hello, Line, Install, Death}
+use Rattle.sm_connection.specs.declared.response.Response.{Response}
+use Rattle.sm_connection.specs.declared.response.Response.TheVariants.{Replied, PolicyRefused, Denied}
+use Rattle.sm_connection.specs.declared.command.Command.{Command}
+use Rattle.sm_connection.specs.declared.command.Command.TheVariants.{Hello, Line, Install, Death}
 
 -- This is refused without a look at any history, and what the connection holds stays as it is.
 abbrev pub SaysOnly : {T : Type 0} → Refusal → T → Reply → T → Type 0

@@ -2,8 +2,8 @@
 use Rattle.std.specs.Prelude.{List, Option}
 use Rattle.sm_history.specs.declared.records.Record.{Record}
 use Rattle.sm_history.specs.Tokens.{Knows}
-use Rattle.sm_session.specs.declared.response.Response.{Response}
-use Rattle.sm_session.specs.declared.command.Command.{Command}
+use Rattle.sm_connection.specs.declared.response.Response.{Response}
+use Rattle.sm_connection.specs.declared.command.Command.{Command}
 use Rattle.sm_connection.specs.Connections.{AdminGives, ClientGives, ComesAfter, GoesOn}
 
 -- Each answer of a client's connection comes from a history that begins with what the connection had seen.

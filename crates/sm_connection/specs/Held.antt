@@ -1,8 +1,8 @@
 -- What a connection and its audit sink hold.
 use Rattle.std.specs.Prelude.{◌≡◌, List, Option}
 use Rattle.sm_history.specs.declared.records.Record.{Record}
-use Rattle.sm_session.specs.declared.command.Command.{Command}
-use Rattle.sm_session.specs.declared.response.Response.{Response}
+use Rattle.sm_connection.specs.declared.command.Command.{Command}
+use Rattle.sm_connection.specs.declared.response.Response.{Response}
 use Rattle.sm_connection.specs.Sinks.{with_records}
 
 -- A connection that holds this may answer a command so, with these audit records, and then holds that.

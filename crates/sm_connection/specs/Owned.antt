@@ -16,8 +16,8 @@ use Rattle.sm_history.specs.declared.outcome.Outcome.{Outcome}
 use Rattle.sm_history.specs.declared.outcome.Outcome.TheVariants as outcomes
 use Rattle.sm_wire.specs.declared.request.Request.{Request}
 use Rattle.sm_wire.specs.declared.request.Request.TheVariants as requests
-use Rattle.sm_session.specs.declared.command.Command.{Command}
-use Rattle.sm_session.specs.declared.command.Command.TheVariants.{Hello, Line, Install, Death}
+use Rattle.sm_connection.specs.declared.command.Command.{Command}
+use Rattle.sm_connection.specs.declared.command.Command.TheVariants.{Hello, Line, Install, Death}
 use Rattle.sm_connection.specs.declared.owned.TheConstants.{ENTRY, TEXT, DELIVERY, LIST, REFERENCE, NOTICE, TURNS}
 use Rattle.sm_connection.specs.declared.owned.TheConstants.{RULE, LABEL}
 

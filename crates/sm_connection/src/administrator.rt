@@ -7,15 +7,16 @@ ghost use Rattle.sm_history.specs.declared.event.Event.TheVariants.{Reload};
 ghost use Rattle.sm_wire.specs.declared.request.Request.TheVariants.{Denials};
 
 use crate::answered::Answered;
+use crate::command::Command;
 use crate::connection::Connection;
 use crate::monitor::Monitor;
 use crate::refusals::not_yours;
+use crate::response::Response;
 use crate::supervisor::Supervisor;
 use sm_door::{Admin, Door, Naming};
 use sm_history::{Gate, Outcome, Query, Reply};
 use sm_kinds::drop_fields;
 use sm_policy::Prepared;
-use sm_session::{Command, Response};
 use sm_wire::Request;
 use std::alloc::Global;
 use std::sync::Wait;

@@ -2,8 +2,8 @@
 
 ghost use Rattle.std.specs.Prelude.{◌≡◌, []};
 
+use crate::response::Response;
 use sm_history::Record;
-use sm_session::Response;
 use std::alloc::Global;
 
 /// An answer to a connection, and the audit records of the request.

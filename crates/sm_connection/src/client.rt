@@ -3,17 +3,18 @@
 ghost use Rattle.std.specs.Prelude.{◌≡◌, MatchBool, []};
 ghost use Rattle.sm_history.specs.Tokens.{Knows};
 ghost use Rattle.sm_history.specs.Verdict.{is_die};
-ghost use Rattle.sm_session.specs.declared.response.Response.TheVariants.{Replied};
+ghost use Rattle.sm_connection.specs.declared.response.Response.TheVariants.{Replied};
 ghost use Rattle.sm_connection.specs.Connections.{ClientGives, GivesHello, GivesLook, GivesChange, GivesDeath};
 ghost use Rattle.sm_connection.specs.Connections.{GivesDeathAfterTries, Greets, DiesAtDoor, Reads, TakesSession};
 
 use crate::answered::Answered;
+use crate::command::Command;
 use crate::connection::Connection;
 use crate::refusals::{not_connected, not_yours};
+use crate::response::Response;
 use sm_door::{Door, Naming, Seat, SeatOrSession, Session};
 use sm_history::{Event, Gate, Outcome, Query, Refusal, Reply, is_death};
 use sm_kinds::{Identity, drop_fields};
-use sm_session::{Command, Response};
 use sm_wire::Request;
 use std::alloc::Global;
 use std::sync::Wait;

@@ -1,15 +1,16 @@
 //! What a connection's answers promise.
 
 use crate::answered::Answered;
-use sm_session::{Command, Response};
+use crate::command::Command;
+use crate::response::Response;
 
 /// A connection at the door, which holds an `S` there, with what its answers and their audit records promise of the
 /// histories that are seen.
 pub trait Connection<S> {
     ghost use Rattle.std.specs.Prelude.{List};
     ghost use Rattle.sm_history.specs.declared.records.Record.{Record};
-    ghost use Rattle.sm_session.specs.declared.response.Response.{Response};
-    ghost use Rattle.sm_session.specs.declared.command.Command.{Command};
+    ghost use Rattle.sm_connection.specs.declared.response.Response.{Response};
+    ghost use Rattle.sm_connection.specs.declared.command.Command.{Command};
 
     // A connection that holds this may answer the command so, with these audit records, and then holds that.
     ghost gives: { S → Command → Response → List Record → S → Type 0 };

@@ -5,13 +5,15 @@ ghost use Rattle.sm_connection.specs.Held.{Puts, holding};
 
 use crate::answered::Answered;
 use crate::audit_sink::AuditSink;
+use crate::command::Command;
 use crate::connection::Connection;
+use crate::desk::Desk;
 use crate::monitor::Monitor;
 use crate::owned::{command_bytes, outcome_bytes};
+use crate::response::Response;
 use crate::supervisor::Supervisor;
 use sm_history::{Outcome, Refusal, Reply};
 use sm_kinds::ClientId;
-use sm_session::{Command, Desk, Response};
 
 /// When a connection's desk calls the function beside it.
 #[derive(Clone, Copy)]

@@ -4,9 +4,9 @@
 ghost use Rattle.std.specs.Prelude.{◌≡◌};
 ghost use Rattle.sm_connection.specs.Owned as spec;
 
+use crate::command::Command;
 use sm_history::{Delivery, Denial, Event, Message, Notice, Notices, Outcome, Reason, Told};
 use sm_policy::Prepared;
-use sm_session::Command;
 use sm_wire::Request;
 
 /// An entry in its chunk.

@@ -3,8 +3,8 @@
 ghost use Rattle.std.specs.Prelude.{◌≡◌, ◌<◌, ◌-◌};
 ghost use Rattle.sm_engine.specs.Counts.{failures_of, calls_of, inner_of, greatest_count};
 ghost use Rattle.sm_wire.specs.declared.kind.Kind.TheVariants.{Client as AsClient, Admin as AsAdmin};
-ghost use Rattle.sm_session.specs.Desks.{DeskAnswers, DeskDeath};
-ghost use Rattle.sm_session.specs.Sessions.{Attends, Counts};
+ghost use Rattle.sm_connection.specs.Desks.{DeskAnswers, DeskDeath};
+ghost use Rattle.sm_connection.specs.Sessions.{Attends, Counts};
 ghost use Rattle.sm_connection.specs.Connections.{ClientGives, AdminGives, ComesAfter, GoesOn};
 ghost use Rattle.sm_connection.specs.Held.{Puts, holding};
 
@@ -14,11 +14,11 @@ use crate::client::Client;
 use crate::connection::Connection;
 use crate::door_desk::{DoorDesk, Occasion};
 use crate::monitor::Monitor;
+use crate::sessions::session;
 use crate::supervisor::Supervisor;
 use sm_door::{Admin, Door, Naming, Seat, SeatOrSession};
 use sm_engine::{Counted, Fault};
 use sm_history::Gate;
-use sm_session::session;
 use sm_wire::Kind;
 use std::alloc::Global;
 use std::io::{Read, Write};

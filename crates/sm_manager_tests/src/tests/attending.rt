@@ -1,10 +1,10 @@
 //! A connection, from its first line to its end.
 
 use super::manager_desk::ManagerDesk;
+use sm_connection::session;
 use sm_engine::{Counted, Fault};
 use sm_history::NoGate;
 use sm_samples::{FailAt, OneByte, Pieces, Said, Talk};
-use sm_session::session;
 use sm_wire::Kind;
 use std::alloc::Global;
 use std::io::Write;

@@ -1,11 +1,11 @@
 //! A desk that holds one service manager.
 
 use super::acts::{ADMIN, Act, event, opened_under};
+use sm_connection::{Command, Desk, Response};
 use sm_core::Manager;
 use sm_history::{By, Event, Failure, Outcome, Refusal, Reply};
 use sm_kinds::{ClientId, Identity, drop_fields};
 use sm_policy::Prepared;
-use sm_session::{Command, Desk, Response};
 use sm_wire::Request;
 use std::alloc::Global;
 use std::process::Abort;

@@ -1,6 +1,7 @@
 //! Whole runs: a check, a script and a session.
 
 use super::outcome::same_text;
+use sm_connection::{Command, Desk, Response, session};
 use sm_engine::{Counted, Fault};
 use sm_history::{Event, NoGate, Outcome, Refusal, Reply};
 use sm_kinds::{ClientId, Places};
@@ -8,7 +9,6 @@ use sm_policy::PolicyFault;
 use sm_questions::check;
 use sm_samples::{DEVICE_LABELS, DEVICE_RULES, ONE_LABEL, PLAIN_RULES};
 use sm_script::{ScriptFault, run_script};
-use sm_session::{Command, Desk, Response, session};
 use sm_wire::{Kind, Request};
 use std::alloc::Global;
 use std::process::Abort;

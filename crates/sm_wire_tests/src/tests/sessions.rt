@@ -1,10 +1,10 @@
 //! A client's death at the end of a session, and its calls of the gate, over a desk that only counts.
 
+use sm_connection::*;
 use sm_engine::Counted;
 use sm_history::{Event, Gate, Outcome, Refusal, Reply};
 use sm_kinds::ClientId;
 use sm_samples::OneByte;
-use sm_session::*;
 use sm_wire::{Kind, Request};
 use std::alloc::Global;
 use std::process::Abort;

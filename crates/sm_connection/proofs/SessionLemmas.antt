@@ -7,11 +7,11 @@ use Rattle.sm_history.specs.declared.reply.Reply.{Reply}
 use Rattle.sm_wire.specs.declared.item.Item.{Item}
 use Rattle.sm_wire.specs.Replies.{told_text}
 use Rattle.sm_engine.specs.Running.{Answered}
-use Rattle.sm_session.specs.declared.response.Response.{Response}
-use Rattle.sm_session.specs.declared.response.Response.TheVariants.{Replied, PolicyRefused, Denied}
-use Rattle.sm_session.specs.declared.session_state.SessionState.{SessionState}
-use Rattle.sm_session.specs.Responses.{response_text}
-use Rattle.sm_session.specs.Sessions.{AnswersItem, Asks, is_asked, reply_told}
+use Rattle.sm_connection.specs.declared.response.Response.{Response}
+use Rattle.sm_connection.specs.declared.response.Response.TheVariants.{Replied, PolicyRefused, Denied}
+use Rattle.sm_connection.specs.declared.session_state.SessionState.{SessionState}
+use Rattle.sm_connection.specs.Responses.{response_text}
+use Rattle.sm_connection.specs.Sessions.{AnswersItem, Asks, is_asked, reply_told}
 
 -- The line of an answer depends only on the visible part of a reply.
 pub response_text-same : (f g : Reply → Reply) → ((r : Reply) → f r ≡ g r) → (response : Response)

@@ -1,4 +1,4 @@
-use Rattle.sm_session.proofs.sessions.session.Goals as goal
+use Rattle.sm_connection.proofs.sessions.session.Goals as goal
 
 pub returns-clause-attends : goal.returns-clause-attends
 returns-clause-attends g c = record {

@@ -16,9 +16,9 @@ use Rattle.sm_engine.specs.declared.fault.Fault.{Fault}
 use Rattle.sm_engine.specs.declared.fault.Fault.TheVariants.{ReadFault, TooManyReads, WriteFault}
 use Rattle.sm_engine.specs.Counts.{calls_of, failures_of, greatest_count}
 use Rattle.sm_engine.specs.Running.{Served}
-use Rattle.sm_session.specs.declared.response.Response.{Response, TheVariants.Replied}
-use Rattle.sm_session.specs.declared.session_state.SessionState.{SessionState}
-use Rattle.sm_session.specs.Responses.{response_text}
+use Rattle.sm_connection.specs.declared.response.Response.{Response, TheVariants.Replied}
+use Rattle.sm_connection.specs.declared.session_state.SessionState.{SessionState}
+use Rattle.sm_connection.specs.Responses.{response_text}
 
 -- A client says who it is first, and only once; before that it may ask nothing else.
 unfoldable pub client_may : Bool → Request → Bool

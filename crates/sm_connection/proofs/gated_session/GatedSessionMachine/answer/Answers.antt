@@ -3,9 +3,9 @@ use Rattle.sm_wire.specs.declared.item.Item.TheVariants.{Asked, Policy}
 use Rattle.sm_wire.specs.declared.telling.Telling.TheVariants.{Whole}
 use Rattle.sm_wire.specs.Replies.{told_in}
 use Rattle.sm_engine.proofs.Results.{on_err}
-use Rattle.sm_session.specs.Desks.{DeskAnswers}
-use Rattle.sm_session.proofs.SessionLemmas.{taken, written}
-use Rattle.sm_session.proofs.gated_session.GatedSessionMachine.answer.Goals as goal
+use Rattle.sm_connection.specs.Desks.{DeskAnswers}
+use Rattle.sm_connection.proofs.SessionLemmas.{taken, written}
+use Rattle.sm_connection.proofs.gated_session.GatedSessionMachine.answer.Goals as goal
 
 pub returns-in-Asked : goal.returns-in-Asked
 returns-in-Asked g c =

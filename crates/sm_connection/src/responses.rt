@@ -2,7 +2,7 @@
 
 ghost use Rattle.std.specs.Prelude.{◌≡◌, ◌++◌, OnOk};
 ghost use Rattle.sm_wire.specs.Replies.{told_in};
-ghost use Rattle.sm_session.specs.Responses.{response_text};
+ghost use Rattle.sm_connection.specs.Responses.{response_text};
 
 use crate::response::Response;
 use sm_wire::{Telling, push_denials, push_policy_refused, push_reply};

@@ -10,9 +10,9 @@ use Rattle.sm_wire.specs.declared.request.Request.TheVariants as requests
 use Rattle.sm_wire.specs.declared.item.Item.{Item}
 use Rattle.sm_wire.specs.declared.item.Item.TheVariants as items
 use Rattle.sm_wire.specs.Texts.{Texts}
-use Rattle.sm_session.specs.declared.command.Command.{Command}
-use Rattle.sm_session.specs.declared.command.Command.TheVariants.{Hello, Line, Install, Death}
-use Rattle.sm_session.specs.declared.response.Response.{Response, TheVariants.PolicyRefused}
+use Rattle.sm_connection.specs.declared.command.Command.{Command}
+use Rattle.sm_connection.specs.declared.command.Command.TheVariants.{Hello, Line, Install, Death}
+use Rattle.sm_connection.specs.declared.response.Response.{Response, TheVariants.PolicyRefused}
 
 -- In this state a desk may answer a command so, and is then in that state.
 abbrev pub Answers : Type 0 → Type 1

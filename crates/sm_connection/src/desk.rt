@@ -1,7 +1,7 @@
 //! Desks, which answer the commands of a session.
 
-ghost use Rattle.sm_session.specs.declared.command.Command.{Command};
-ghost use Rattle.sm_session.specs.declared.response.Response.{Response};
+ghost use Rattle.sm_connection.specs.declared.command.Command.{Command};
+ghost use Rattle.sm_connection.specs.declared.response.Response.{Response};
 
 use crate::command::Command;
 use crate::response::Response;

@@ -2,8 +2,8 @@
 
 ghost use Rattle.std.specs.Prelude.{◌<◌, ◌-◌};
 ghost use Rattle.sm_engine.specs.Counts.{failures_of, calls_of, inner_of, greatest_count};
-ghost use Rattle.sm_session.specs.Desks.{DeskAnswers, DeskDeath};
-ghost use Rattle.sm_session.specs.Sessions.{Attends, Counts};
+ghost use Rattle.sm_connection.specs.Desks.{DeskAnswers, DeskDeath};
+ghost use Rattle.sm_connection.specs.Sessions.{Attends, Counts};
 
 use crate::desk::Desk;
 use crate::gated_session::GatedSession;

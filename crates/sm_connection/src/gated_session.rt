@@ -1,8 +1,8 @@
 //! A session that calls its gate at each line.
 
 ghost use Rattle.std.specs.Prelude.{◌≡◌};
-ghost use Rattle.sm_session.specs.Desks.{DeskAnswers, DeskDeath};
-ghost use Rattle.sm_session.specs.Sessions.{AnswersItem, TellsDeath, begins, held_limit, is_over};
+ghost use Rattle.sm_connection.specs.Desks.{DeskAnswers, DeskDeath};
+ghost use Rattle.sm_connection.specs.Sessions.{AnswersItem, TellsDeath, begins, held_limit, is_over};
 
 use crate::command::Command;
 use crate::desk::Desk;
@@ -28,7 +28,7 @@ pub struct GatedSession<'a, D: Desk, G> {
 }
 
 impl<'a, D: Desk, G> Model for GatedSession<'a, D, G> {
-    ghost use Rattle.sm_session.specs.declared.session_state.SessionState.{SessionState};
+    ghost use Rattle.sm_connection.specs.declared.session_state.SessionState.{SessionState};
 
     ghost Value = { SessionState D };
 

@@ -2,8 +2,8 @@
 
 ghost use Rattle.std.specs.Prelude.{◌≡◌, ◌++◌, [], OnOk, false, if◌then◌else◌};
 ghost use Rattle.sm_wire.specs.declared.item.Item.TheVariants.{Asked, Policy};
-ghost use Rattle.sm_session.specs.Desks.{DeskAnswers};
-ghost use Rattle.sm_session.specs.Sessions.{is_asked, Asks, said_to};
+ghost use Rattle.sm_connection.specs.Desks.{DeskAnswers};
+ghost use Rattle.sm_connection.specs.Sessions.{is_asked, Asks, said_to};
 
 use crate::command::Command;
 use crate::desk::Desk;
