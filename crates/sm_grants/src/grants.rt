@@ -108,26 +108,6 @@ impl Grants {
         Some(number)
     }
 
-    /// Releases one grant of what the client holds under a number. The last release frees the number.
-    pub fn release(&mut self, client: u32, number: u32) -> Option<Node>
-        ensures tracks { (d : Effects) → Tracks d self.old → (result ≡ node_at d client number)
-            × MatchOption result (Tracks d self.new) (λ n. Tracks (Releases client n ∷ d) self.new) }
-        ensures spare { (k : ℕ) → spare_for self.old k ≤ spare_for self.new k }
-    {
-        if number == 0 {
-            return None;
-        }
-        let Some(i) = row_index(&self.rows, client) else {
-            return None;
-        };
-        let row = &mut self.rows[i];
-        let Some(held) = row.handles.at(number as usize - 1) else {
-            return None;
-        };
-        row.handles.release(number as usize - 1);
-        Some(held.node)
-    }
-
     /// Releases one grant of an object, and returns whether the client held it. The last release frees its number. An
     /// object that has the number `near` is found fastest; any number gives the same result.
     pub fn release_held(&mut self, client: u32, node: Node, near: u32) -> bool
@@ -247,18 +227,6 @@ impl Grants {
     {
         let count = holders_in(&self.rows, node, except);
         count.min(u32::MAX as usize) as u32
-    }
-
-    /// Returns the numbers of a client's handles if objects that it doesn't own are granted to it in order. Allocates
-    /// nothing.
-    pub fn numbers(&self, client: u32, nodes: &[Node]) -> ArrayVec<u32, MOST_REFS>
-        requires { length nodes.now ≤ MOST_REFS }
-        ensures { (d : Effects) → Tracks d self.now → is_live d client ≡ true
-            → result.items ≡ numbers_for d client nodes.now }
-    {
-        let mut numbers = ArrayVec::new();
-        let _ = self.numbers_if_room(client, nodes, &mut numbers);
-        numbers
     }
 
     /// Appends to an empty list the numbers of a client's handles if objects that it doesn't own are granted to it in

@@ -116,32 +116,6 @@ impl Inboxes {
         MOST_DELIVERIES.saturating_sub(self.waiting(client))
     }
 
-    /// Returns whether a delivery may be put into a client's inbox: the client has one, and it has room.
-    pub fn can_put(&self, client: u32) -> bool
-        ensures { IsTrue result ↔ (0 < room_of self.now client) }
-    {
-        match inbox_index(&self.rows, client) {
-            Some(i) => self.rows[i].waiting.len() < MOST_DELIVERIES,
-            None => false,
-        }
-    }
-
-    /// Appends a delivery to a client's inbox. Allocates nothing.
-    pub fn put(&mut self, client: u32, delivery: Shared<Delivery>)
-        requires { 0 < room_of self.old client }
-        ensures tracks { (d : Effects) → TracksInboxes d self.old → is_live d client ≡ true
-            → TracksInboxes (Delivers client delivery ∷ d) self.new }
-        ensures still { (k : ℕ) → is_open self.new k ≡ is_open self.old k }
-        ensures room { room_of self.new client + 1 ≡ room_of self.old client }
-        ensures others { (k : ℕ) → (client == k) ≡ false → room_of self.new k ≡ room_of self.old k }
-    {
-        let Some(i) = inbox_index(&self.rows, client) else {
-            unreachable!();
-        };
-        let row = &mut self.rows[i];
-        row.waiting.push_back_reserved(delivery);
-    }
-
     /// Appends a delivery to a client's inbox if a delivery may be put into it, and returns whether it may. Otherwise the
     /// delivery is dropped. Allocates nothing.
     pub fn put_if_room(&mut self, client: u32, delivery: Shared<Delivery>) -> bool

@@ -1,5 +1,6 @@
 //! The table of handles.
 
+use arrayvec::ArrayVec;
 use sm_grants::Grants;
 use sm_kinds::{ClientId, Node, ObjRef};
 use std::process::Abort;
@@ -26,10 +27,12 @@ fn numbers_are_used_again(rt: HostRuntime) {
     assert!(rt; give(&rt, &mut grants, 7, object(1, 6)) == 2);
     assert!(rt; give(&rt, &mut grants, 7, object(1, 5)) == 1);
     assert!(rt; give(&rt, &mut grants, 7, object(2, 5)) == 3);
-    assert!(rt; grants.release(7, 1).is_some());
+    assert!(rt; grants.release_held(7, object(1, 5), 1));
     assert!(rt; grants.node(7, 1).is_some());
-    assert!(rt; grants.release(7, 1).is_some());
-    assert!(rt; grants.release(7, 1).is_none());
+    // A number that isn't the object's is passed over.
+    assert!(rt; grants.release_held(7, object(1, 5), 2));
+    assert!(rt; !grants.release_held(7, object(1, 5), 1));
+    assert!(rt; grants.node(7, 2) == Some(object(1, 6)));
     assert!(rt; grants.resolve(7, ObjRef::Handle(1)).is_none());
     assert!(rt; grants.resolve(7, ObjRef::Own(4)) == Some(object(7, 4)));
     assert!(rt; give(&rt, &mut grants, 7, object(3, 5)) == 1);
@@ -48,7 +51,7 @@ fn holders_of_an_object(rt: HostRuntime) {
     let _ = give(&rt, &mut grants, 9, object(1, 6));
     assert!(rt; grants.holders(node, 1) == 2);
     assert!(rt; grants.holders(node, 7) == 1);
-    let _ = grants.release(8, 1);
+    assert!(rt; grants.release_held(8, node, 0));
     assert!(rt; grants.holders(node, 7) == 0);
 }
 
@@ -58,11 +61,13 @@ fn references_of_a_call(rt: HostRuntime) {
     for i in 1..5 {
         let _ = give(&rt, &mut grants, 7, object(1, i));
     }
-    let _ = grants.release(7, 2);
+    assert!(rt; grants.release_held(7, object(1, 2), 2));
     let nodes = [object(2, 1), object(1, 3), object(2, 2), object(2, 1)];
-    let numbers = grants.numbers(7, &nodes);
+    let mut numbers = ArrayVec::new();
+    assert!(rt; grants.numbers_if_room(7, &nodes, &mut numbers));
     assert!(rt; numbers.as_slice() == [2, 3, 5, 2].as_slice());
-    let others = grants.numbers(8, &nodes);
+    let mut others = ArrayVec::new();
+    assert!(rt; grants.numbers_if_room(8, &nodes, &mut others));
     assert!(rt; others.as_slice() == [1, 2, 3, 1].as_slice());
     assert!(rt; grants.room(7, &nodes) && grants.room(8, &[]));
 }

@@ -29,12 +29,7 @@ fn deliver(
     object: u32,
 ) -> bool {
     inboxes.reserve(client).ok().expect(rt, "memory");
-    if !inboxes.can_put(client) {
-        return false;
-    }
-    let delivery = delivery(rt, alloc, object);
-    inboxes.put(client, delivery);
-    true
+    inboxes.put_if_room(client, delivery(rt, alloc, object))
 }
 
 fn oldest(inboxes: &Inboxes, client: u32) -> u32 {
@@ -54,7 +49,7 @@ fn taken(inboxes: &mut Inboxes, client: u32) -> u32 {
 #[test]
 fn the_oldest_is_taken_first(rt: HostRuntime) {
     let mut inboxes = Inboxes::new(rt.alloc());
-    assert!(rt; !inboxes.can_put(7));
+    assert!(rt; !inboxes.put_if_room(7, delivery(&rt, rt.alloc(), 1)));
     assert!(rt; inboxes.has_room(7));
     assert!(rt; deliver(&rt, &mut inboxes, rt.alloc(), 7, 1));
     assert!(rt; deliver(&rt, &mut inboxes, rt.alloc(), 8, 5));
@@ -67,6 +62,6 @@ fn the_oldest_is_taken_first(rt: HostRuntime) {
     assert!(rt; oldest(&inboxes, 8) == 5);
     inboxes.remove_client(8);
     assert!(rt; oldest(&inboxes, 8) == 0);
-    assert!(rt; !inboxes.can_put(8));
-    assert!(rt; inboxes.can_put(7));
+    assert!(rt; !inboxes.put_if_room(8, delivery(&rt, rt.alloc(), 6)));
+    assert!(rt; inboxes.put_if_room(7, delivery(&rt, rt.alloc(), 3)));
 }

@@ -172,10 +172,7 @@ fn inbox(rt: &impl Abort, inboxes: &mut Inboxes) -> Option<()> {
 
 fn delivers(rt: &impl Abort, alloc: Global, inboxes: &mut Inboxes) -> Option<()> {
     inbox(rt, inboxes)?;
-    let delivery = delivery(alloc)?;
-    if inboxes.can_put(7) {
-        inboxes.put(7, delivery);
-    }
+    assert!(rt; inboxes.put_if_room(7, delivery(alloc)?));
     Some(())
 }
 
