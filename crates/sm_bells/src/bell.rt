@@ -1,5 +1,6 @@
 //! A connection's bell.
 
+use libc::EINTR;
 use libc::net::{EFD_CLOEXEC, EFD_NONBLOCK, POLLIN, eventfd, poll};
 use libc::types::pollfd;
 use std::io;
@@ -124,6 +125,9 @@ impl Bell {
             },
         ];
         let ready = poll(&mut asked, milliseconds.min(LONGEST) as i32);
+        if ready < 0 {
+            return os::errno() == EINTR;
+        }
         if ready == 0 || asked[1].revents != 0 {
             return false;
         }
