@@ -235,7 +235,7 @@ class Drawing(PolicyDrawing):
             name = self.one([*NAMES, "*"]) if given[1] is None and self.is_so(0.3) else None
             left = given[0], given[1], name, given[2], given[3]
             return ("access", *left) if kind < 0.65 else ("rules", self.one(RULE_KINDS), *left)
-        return ("diff",)
+        return ("unused",) if kind < 0.9 else ("diff",)
 
     # Cases.
 

@@ -145,6 +145,23 @@ def rules(kind, rules, contexts, path, rule_kind=None, source=None, target=None,
     return lines(f"{path}:{line}: {statement(every[line - 1 :])}" for line in found), "", 0
 
 
+def covered_by(policy, rule):
+    return {access for access in every_access(policy) if rule.covers(*access)}
+
+
+@asked
+def unused(kind, rules, contexts, path):
+    policy = read_policy(rules, contexts, kind)
+    granted, found, every = set(), [], rules.split("\n")
+    for rule in policy.rules["allow"]:
+        covered = covered_by(policy, rule)
+        found += [("rule", rule.line)] if covered <= granted else []
+        granted |= covered
+    found += [("dontaudit", rule.line) for rule in policy.rules["dontaudit"] if covered_by(policy, rule) <= granted]
+    told = lines(f"{word} {path}:{line}: {statement(every[line - 1 :])}" for word, line in found)
+    return told, "", 1 if found else 0
+
+
 def every_access(policy):
     return [(source, target, *access) for source, target, access in product(policy.types, policy.types, ACCESSES)]
 

@@ -149,6 +149,9 @@ COMPLETED = [
     ("svcmgr access --class binder ", "labels rules"),
     ("svcmgr access --source ", "labels rules"),
     ("svcmgr ru", "run rules"),
+    ("svcmgr un", "unused"),
+    ("svcmgr unused --", "--help"),
+    ("svcmgr unused ", "labels rules"),
     ("svcmgr rules --k", "--kind"),
     ("svcmgr rules --kind ", "allow neverallow dontaudit"),
     ("svcmgr rules rules labels --kind d", "dontaudit"),
@@ -278,6 +281,7 @@ FAULTS = {
     "explain rules labels untrusted_app activity_service service_manager find": ASKED,
     "access --source untrusted_app rules labels": ASKED,
     "rules --source untrusted_app rules labels": ASKED,
+    "unused rules labels": ASKED[:-1],
     "diff rules labels new newlabels": [[UNKNOWN_OPTION], *OLD, *NEW],
 }
 
@@ -336,6 +340,11 @@ NEW_TOUR = TOUR.replace(
     "allow untrusted_app system_server:binder transfer;\n",
     "allow untrusted_app private_service:service_manager find;\n",
 )
+# Two rules without which the tour's policy is the same.
+NEEDLESS = """allow untrusted_app activity_service:service_manager find;
+dontaudit untrusted_app activity_service:service_manager find;
+"""
+
 NEW_TOUR_LABELS = """activity u:object_r:activity_service:s0
 window   u:object_r:private_service:s0
 *        u:object_r:private_service:s0
@@ -389,6 +398,13 @@ QUESTIONS = [
         "device:17: allow binderuser activity_service:service_manager find;\n",
     ),
     ("rules device devicelabels --kind dontaudit", 0, ""),
+    ("unused rules labels", 0, ""),
+    (
+        "unused needless labels",
+        1,
+        "rule needless:36: allow untrusted_app activity_service:service_manager find;\n"
+        "dontaudit needless:37: dontaudit untrusted_app activity_service:service_manager find;\n",
+    ),
     ("diff rules labels rules labels", 0, ""),
     (
         "diff rules labels new newlabels",
@@ -426,11 +442,13 @@ UNANSWERED = [
     ("explain rules nowhere untrusted_app activity_service service_manager find", "", NOWHERE),
     ("access rules nowhere", "", NOWHERE),
     ("rules rules nowhere", "", NOWHERE),
+    ("unused rules nowhere", "", NOWHERE),
     ("diff rules labels nowhere labels", "", NOWHERE),
     ("label refused labels foo", UNKNOWN_NAME, ""),
     ("explain refused labels untrusted_app activity_service service_manager find", UNKNOWN_NAME, ""),
     ("access refused labels", UNKNOWN_NAME, ""),
     ("rules refused labels", UNKNOWN_NAME, ""),
+    ("unused refused labels", UNKNOWN_NAME, ""),
     ("diff refused labels rules labels", UNKNOWN_NAME, "fault: refused labels: policy refused\n"),
     (
         "diff rules labels rules refused",
@@ -450,6 +468,7 @@ def tour_in(folder):
         "device": DEVICE,
         "devicelabels": LABELS,
         "permissive": TOUR + "permissive isolated_app;\n",
+        "needless": TOUR + NEEDLESS,
         "refused": "permissive app;\n",
     }
     for name, text in texts.items():
@@ -484,6 +503,7 @@ def unread_answers(program):
         ("label rules labels activity", 0),
         ("access rules labels", 0),
         ("rules rules labels", 0),
+        ("unused needless labels", 1),
         ("explain rules labels untrusted_app activity_service service_manager find", 1),
         ("diff rules labels new newlabels", 1),
         ("label refused labels activity", 2),

@@ -30,6 +30,8 @@ pub enum Mode<'a> {
     /// `svcmgr rules [--kind KIND] [--source TYPE] [--target TYPE] [--name NAME] [--class CLASS] [--perm PERM] RULES
     /// CONTEXTS`
     Rules(RuleFilterWords<'a>),
+    /// `svcmgr unused RULES CONTEXTS`
+    Unused,
 }
 
 /// What a command line asks for.
@@ -158,6 +160,7 @@ fn options_under<'a>(name: &str, matches: &ArgMatches<'a>) -> Option<Options<'a>
         ),
         "serve" => in_mode(Mode::Serve(sockets_of(matches)?), matches),
         "rules" => in_mode(Mode::Rules(rule_filter_of(matches)), matches),
+        "unused" => in_mode(Mode::Unused, matches),
         _ => in_mode(Mode::Ask(question_of(name, matches)?), matches),
     }
 }
@@ -167,7 +170,7 @@ fn in_mode<'a>(mode: Mode<'a>, matches: &ArgMatches<'a>) -> Option<Options<'a>>
 {
     let entries = match mode {
         Mode::Run | Mode::Serve(_) => slots_of(matches),
-        Mode::Check { .. } | Mode::Ask(_) | Mode::Rules(_) => DEFAULT_SLOTS,
+        Mode::Check { .. } | Mode::Ask(_) | Mode::Rules(_) | Mode::Unused => DEFAULT_SLOTS,
     };
     Some(Options {
         mode,

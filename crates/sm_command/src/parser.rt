@@ -17,6 +17,7 @@ pub fn command<'a>(alloc: Global) -> Result<Command<'a>, AllocError> {
         .subcommand(explain(alloc))
         .subcommand(access(alloc))
         .subcommand(rules(alloc))
+        .subcommand(unused(alloc))
         .subcommand(diff(alloc))
         .subcommand(admin(alloc))
         .end()
@@ -86,6 +87,11 @@ fn rules<'a>(alloc: Global) -> Building<'a> {
     let kinds = "Only those of this kind: allow, neverallow or dontaudit";
     let rules = Building::new(alloc, "rules", about).arg(word(alloc, "kind", "KIND", kinds));
     with_files(alloc, with_filter(alloc, rules))
+}
+
+fn unused<'a>(alloc: Global) -> Building<'a> {
+    let about = "Lists the rules of a policy that are of no use";
+    with_files(alloc, Building::new(alloc, "unused", about))
 }
 
 fn diff<'a>(alloc: Global) -> Building<'a> {

@@ -108,7 +108,7 @@ of_binder n h = elim (cases_eq n 8) [
   ]
 ]
 
-numbered : (class : Class) (perm : Perms) → is_some (perm_of class perm) ≡ true
+pub numbered : (class : Class) (perm : Perms) → is_some (perm_of class perm) ≡ true
     → (b : ℕ) × (b < 7) × (class_at b ≡ class) × (perm_at b ≡ perm)
 numbered ServiceManager perm h = of_manager perm.0 h
 numbered Binder perm h = of_binder perm.0 h

@@ -31,6 +31,7 @@ mod tests;
 mod type_numbers;
 mod unknown;
 
+pub use buffer::write_full;
 pub use checking::{Verdict, check, judge, refused_line};
 pub use comparing::diff;
 pub use explaining::explain;
@@ -38,6 +39,7 @@ pub use filtering::{Filter, FilterOptions, Target, read_filter};
 pub use judging::check_all;
 pub use labelling::label;
 pub use listing::access;
+pub use quotes::Quotes;
 pub use rule_filter::{RuleFilter, RuleOptions, read_rule_filter};
 pub use rule_laws::{first_is_explained, words_leave_one};
 pub use rule_listing::rules;

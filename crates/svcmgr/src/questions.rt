@@ -16,6 +16,7 @@ use sm_questions::{
     FilterOptions, RuleOptions, Target, Unknown, access, diff, explain, label, read_access,
     read_filter, read_rule_filter, refused_line, rules,
 };
+use sm_unused::unused;
 use std::process::ExitCode;
 
 /// The status of a question that has no answer.
@@ -33,6 +34,11 @@ pub fn ask_rules<'a>(
     words: RuleFilterWords<'a>,
 ) -> ExitCode {
     answered(rt, try_ask_rules(rt, options, words))
+}
+
+/// Reads the policy, and lists what is of no use in it.
+pub fn ask_unused<'a>(rt: &HostRuntime, options: &Options<'a>) -> ExitCode {
+    answered(rt, try_ask_unused(rt, options))
 }
 
 /// Returns the status of an answer, or reports why there is none.
@@ -87,6 +93,18 @@ fn try_ask_rules<'a>(
     let contexts = text_of(rt, options.contexts)?;
     match Prepared::from_texts(rt.alloc(), &source, &contexts) {
         Ok(policy) => tell_rules(rt, &policy, options.rules, &source, words),
+        Err(fault) => {
+            refuse(rt, &fault)?;
+            Ok(ExitCode::from(NO_ANSWER))
+        }
+    }
+}
+
+fn try_ask_unused<'a>(rt: &HostRuntime, options: &Options<'a>) -> Result<ExitCode, Ending<'a>> {
+    let source = text_of(rt, options.rules)?;
+    let contexts = text_of(rt, options.contexts)?;
+    match Prepared::from_texts(rt.alloc(), &source, &contexts) {
+        Ok(policy) => tell_unused(rt, &policy, options.rules, &source),
         Err(fault) => {
             refuse(rt, &fault)?;
             Ok(ExitCode::from(NO_ANSWER))
@@ -237,6 +255,18 @@ fn tell_rules<'a>(
         &mut writer,
     );
     listed(ended, writer.into_inner().is_closed())
+}
+
+/// Lists what is of no use in a policy, whose policy source has this path.
+fn tell_unused<'a>(
+    rt: &HostRuntime,
+    policy: &Prepared,
+    path: &str,
+    source: &[u8],
+) -> Result<ExitCode, Ending<'a>> {
+    let mut writer = Counted::new(Pipe::new(rt.stdout()));
+    let ended = unused(rt.alloc(), policy, path.as_bytes(), source, &mut writer);
+    decided(ended, writer.into_inner().is_closed())
 }
 
 fn filter_options<'a>(words: FilterWords<'a>) -> FilterOptions<'a> {

@@ -11,6 +11,7 @@ use sm_questions::{
 };
 use sm_ruletext::RuleTextFault;
 use sm_samples::{BROKEN_RULE, DEVICE_LABELS, DEVICE_RULES, device_rules_with, stricter_rules};
+use sm_unused::unused;
 use std::alloc::Global;
 use std::process::Abort;
 
@@ -108,6 +109,20 @@ fn lists_rules(rt: &impl Abort, alloc: Global) -> Option<()> {
     wrote(rt, fault, writer, RULES_TOLD)
 }
 
+const NEEDLESS_RULE: &[u8] = b"allow untrusted_app activity_service:service_manager find;\n";
+
+const UNUSED_TOLD: &[u8] =
+    b"rule t.te:17: allow untrusted_app activity_service:service_manager find;\n";
+
+/// Lists a rule that grants an application what a rule above it grants.
+fn lists_unused(rt: &impl Abort, alloc: Global) -> Option<()> {
+    let rules = device_rules_with(alloc, NEEDLESS_RULE).ok()?;
+    let policy = prepared(rt, alloc, &rules)?;
+    let mut writer = Counted::new(Vec::new(alloc));
+    let fault = unused(alloc, &policy, b"t.te", &rules, &mut writer).err();
+    wrote(rt, fault, writer, UNUSED_TOLD)
+}
+
 fn compares(rt: &impl Abort, alloc: Global, old: &Prepared, new: &Prepared) -> Option<()> {
     let mut writer = Counted::new(Vec::new(alloc));
     let fault = diff(alloc, old, new, &mut writer).err();
@@ -166,6 +181,7 @@ fn answers(rt: &impl Abort, alloc: Global, old: &Prepared, new: &Prepared) {
     again!(rt; explains(rt, alloc, old));
     again!(rt; lists(rt, alloc, old));
     again!(rt; lists_rules(rt, alloc));
+    again!(rt; lists_unused(rt, alloc));
     again!(rt; compares(rt, alloc, old, new));
     again!(rt; names_a_word(rt, alloc));
     again!(rt; shows_a_line(rt, alloc));

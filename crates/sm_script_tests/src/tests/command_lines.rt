@@ -181,6 +181,7 @@ const ACCEPTED: &[(&str, Mode, u32)] = &[
         }),
         1_048_576,
     ),
+    ("svcmgr unused r c", Mode::Unused, 1_048_576),
     (
         "svcmgr diff r c s d",
         Mode::Ask(Question::Diff(NewFiles {
@@ -289,6 +290,7 @@ const REFUSED: &[(ErrorKind, &[&str])] = &[
             "svcmgr explain r c app svc binder",
             "svcmgr diff r c s",
             "svcmgr rules --kind allow r",
+            "svcmgr unused r",
             "svcmgr check --show",
             "svcmgr admin reload r",
             "svcmgr admin explain app svc binder",

@@ -1,0 +1,5 @@
+pub mod Adding
+pub mod Lines
+pub mod Removed
+pub mod RuleByRule
+pub mod Rows
