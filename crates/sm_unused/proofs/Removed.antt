@@ -1,5 +1,5 @@
 -- Policies without some of their unused rules.
-use Rattle.std.proofs.Common.{◌≡◌, ◌∙◌, ℕ, zero, suc, ◌<◌, Bool, true, false, not, ◌&&◌, ◌||◌, List, [], ◌∷◌, ◌++◌, length}
+use Rattle.std.proofs.Common.{◌≡◌, ◌∙◌, ℕ, ◌<◌, Bool, true, false, not, ◌&&◌, ◌||◌, List, [], ◌∷◌, ◌++◌}
 use Rattle.std.proofs.Common.{get_or, is_some, refl, sym, ap, arith, cond, Option, Some, None, option_and_then, true≢false}
 use Rattle.std.specs.Prelude.{find, option_map}
 use Rattle.std.specs.List.{cons_option, list_any}
@@ -23,15 +23,15 @@ use Rattle.sm_types.specs.Denoting.{chosen, declares, gives_attribute, has_attri
 use Rattle.sm_types.proofs.Accepted.{declares_type}
 use Rattle.sm_rules.specs.Access as access
 use Rattle.sm_rules.specs.Access.{covered_by, covers, covers_as, gives, joins, names_permissive, picks, rule_of}
-use Rattle.sm_rules.specs.Keeping.{class_at, kept_only, perm_at, rule_in, rules_in}
+use Rattle.sm_rules.specs.Keeping.{kept_only, rule_in, rules_in}
 use Rattle.sm_rules.proofs.Consistent.{some_any}
-use Rattle.sm_rules.proofs.Lines.{unkept, unnamed}
-use Rattle.sm_policy.specs.Policy.{Policy, allowed, audits, decision, is_permissive, silenced, written, written_at}
+use Rattle.sm_rules.proofs.Lines.{unkept}
+use Rattle.sm_policy.specs.Policy.{Policy, allowed, audits, decision, silenced, written, written_at}
 use Rattle.sm_questions.specs.Accesses.{perm_numbers}
 use Rattle.sm_questions.proofs.Written.{written_if}
 use Rattle.sm_questions.proofs.SingleAccess.{numbered}
 use Rattle.sm_unused.specs.Removal.{Keep, KeepsUsed, covers_no_more, has_line, kept, kept_below}
-use Rattle.sm_unused.specs.Unused.{covers_more, covers_new, some_cover}
+use Rattle.sm_unused.specs.Unused.{covers_more, covers_new}
 
 -- ---- tests of lists
 

@@ -1,4 +1,4 @@
-use Rattle.std.proofs.Common.{◌<◌, ◌∙◌, ℕ, length}
+use Rattle.std.proofs.Common.{◌∙◌}
 use Rattle.sm_engine.proofs.Results.{on_err}
 use Rattle.sm_questions.proofs.Buffering.{passes_step, stops_lost, stops_step}
 use Rattle.sm_unused.specs.Unused.{word_line}
