@@ -4,6 +4,7 @@ import contextlib
 import os
 import socket
 import subprocess
+import threading
 import time
 from concurrent.futures import ThreadPoolExecutor
 
@@ -66,6 +67,27 @@ def administrator_who_never_pauses(program):
             seconds = time.monotonic() - began
         expect(seconds <= LIMIT + MARGIN, True, f"it waited {seconds} seconds")
         expect(answered.result() > 0, True, "the first one was answered")
+
+
+@check
+def administrator_who_sends_slowly(program):
+    """A connection with a byte each 1.5 seconds doesn't idle. It ends within twenty seconds once another one waits."""
+    over = threading.Event()
+
+    def send():
+        with contextlib.suppress(OSError):
+            while not over.wait(1.5):
+                slow.stream.sendall(b"v")
+
+    with served(program) as server, server.admin() as slow, ThreadPoolExecutor(1) as pool:
+        sent = pool.submit(send)
+        with server.admin() as other:
+            began = time.monotonic()
+            talk(other, ("version", "version 1 1"))
+            seconds = time.monotonic() - began
+        over.set()
+        sent.result()
+        expect(seconds <= 2 * LIMIT + MARGIN, True, f"it waited {seconds} seconds")
 
 
 def versions_until_the_end(admin):
