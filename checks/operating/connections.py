@@ -150,8 +150,8 @@ def administrator_who_idles_alone(program, shim):
 
 @check
 def clients_that_wait(program):
-    """A line says so once, until no client waits."""
-    line = "warning: a client has waited for a worker for a second\n"
+    """A line says so once, until no client waits, and how many others wait."""
+    line = "warning: a client has waited for a worker for a second, beside at least 1 more\n"
     with served(program, "--workers", "1") as server:
         for _ in range(2):
             with server.client() as first, server.client() as second, server.client() as third:
@@ -168,6 +168,26 @@ def clients_that_wait(program):
             server.says_no_more()
             with server.client() as client:
                 talk(client, ("version", "malformed"))
+
+
+@check
+def clients_that_are_counted(program):
+    """Of those that wait beside the first one, the line counts one for each worker. They are served in their turn."""
+    workers = 3
+    for others in 0, 2, workers + 2:
+        counted = f", beside at least {min(others, workers)} more" if others else ""
+        with served(program, "--workers", str(workers)) as server, contextlib.ExitStack() as rest:
+            clients = []
+            for turn in range(1, workers + 1 + others + 1):
+                clients.append(rest.enter_context(server.client()))
+                clients[-1].send(HELLO.encode() + b"\n")
+                if turn <= workers:
+                    expect(clients[-1].lines.line(), f"client {turn}\n", "a client is answered")
+            server.says(f"warning: a client has waited for a worker for a second{counted}\n")
+            for turn, client in enumerate(clients[workers:], workers + 1):
+                clients[turn - workers - 1].stream.close()
+                expect(client.lines.line(), f"client {turn}\n", "a client is answered in its turn")
+            server.says_no_more()
 
 
 @check
@@ -254,6 +274,22 @@ def enough_files(program):
             for turn, client in enumerate(clients[:4], 1):
                 talk(client, (HELLO, f"client {turn}"))
             server.says(f"warning: {words}\n")
+
+
+@check
+def files_of_those_who_wait(program):
+    """With few files, fewer of them are accepted and counted, and administrators are served all the same."""
+    workers, more = 4, 2
+    few = lambda: resource.setrlimit(resource.RLIMIT_NOFILE, (workers + 11 + more,) * 2)
+    with served(program, "--workers", str(workers), preexec_fn=few) as server, contextlib.ExitStack() as open_ones:
+        clients = [open_ones.enter_context(server.client()) for _ in range(2 * workers + 4)]
+        for turn, client in enumerate(clients[:workers], 1):
+            talk(client, (HELLO, f"client {turn}"))
+        server.says(f"warning: a client has waited for a worker for a second, beside at least {more} more\n")
+        for _ in range(3):
+            with server.admin() as admin:
+                talk(admin, ("version", f"version 1 {1 + workers}"))
+        server.says_no_more()
 
 
 @check

@@ -2,9 +2,9 @@
 
 use crate::bell::Bell;
 use sm_history::Gate;
-use sm_kinds::drop_fields;
-use std::alloc::Global;
+use std::alloc::{AllocError, Global};
 use std::io::{self, ErrorKind};
+use std::sync::Arc;
 
 /// The bells of a server, one for each worker.
 #[derive(Drop)]
@@ -14,12 +14,8 @@ pub struct Bells {
 }
 
 impl Bells {
-    /// Makes this number of bells, for which a `take` waits for some milliseconds, at most 60,000.
-    ///
-    /// # Errors
-    ///
-    /// `OutOfMemory` if an allocation failed, or the kernel's, if it gives no file descriptor.
-    pub fn new(alloc: Global, number: u32, milliseconds: u32) -> io::Result<Bells> {
+    // Makes this number of bells.
+    fn new(alloc: Global, number: u32, milliseconds: u32) -> io::Result<Bells> {
         let mut bells = Vec::new(alloc);
         if bells.reserve(number as usize).is_err() {
             return Err(io::Error::from(ErrorKind::OutOfMemory));
@@ -56,30 +52,54 @@ impl Bells {
     }
 }
 
-/// The gate of a door, which rings the bell of each client to whom something is delivered.
-pub struct Ringer<'a> {
-    bells: Option<&'a Bells>,
+/// The gate of a door, which rings the bell of each client to whom something is delivered. Without bells it does nothing.
+#[derive(Drop)]
+pub struct Ringer {
+    bells: Option<Arc<Bells>>,
 }
 
-impl<'a> Drop for Ringer<'a> {
-    fn drop(self) {
-        drop_fields!(self: bells);
+impl Ringer {
+    /// The gate of a server's door, with this number of bells, for which a `take` waits for some milliseconds, at most
+    /// 60,000. If it doesn't wait, there are no bells.
+    ///
+    /// # Errors
+    ///
+    /// `OutOfMemory` if an allocation failed, or the kernel's, if it gives no file descriptor.
+    pub fn new(alloc: Global, number: u32, milliseconds: u32) -> io::Result<Ringer> {
+        if milliseconds == 0 {
+            return Ok(Ringer::silent());
+        }
+        match Arc::new(alloc, Bells::new(alloc, number, milliseconds)?) {
+            Ok(bells) => Ok(Ringer { bells: Some(bells) }),
+            Err(_) => Err(io::Error::from(ErrorKind::OutOfMemory)),
+        }
+    }
+
+    /// One without bells.
+    pub fn silent() -> Ringer {
+        Ringer { bells: None }
+    }
+
+    /// Another one with the same bells.
+    pub fn share(&self) -> Result<Ringer, AllocError> {
+        match &self.bells {
+            None => Ok(Ringer::silent()),
+            Some(bells) => Ok(Ringer {
+                bells: Some(Arc::try_clone(bells)?),
+            }),
+        }
+    }
+
+    /// Returns its bells.
+    pub fn bells(&self) -> Option<&Bells> {
+        match &self.bells {
+            None => None,
+            Some(bells) => Some(&**bells),
+        }
     }
 }
 
-impl<'a> Ringer<'a> {
-    /// The gate of a server's door. Without bells it does nothing.
-    pub fn new(bells: Option<&'a Bells>) -> Ringer<'a> {
-        Ringer { bells }
-    }
-
-    /// Returns the bells that it rings.
-    pub fn bells(&self) -> Option<&'a Bells> {
-        self.bells
-    }
-}
-
-impl<'a> Gate for Ringer<'a> {
+impl Gate for Ringer {
     fn enter(&self, _line: u64) {}
 
     fn inside(&self) {}
@@ -87,7 +107,7 @@ impl<'a> Gate for Ringer<'a> {
     fn leave(&self, _line: u64) {}
 
     fn deliver(&self, client: u32) {
-        if let Some(bells) = self.bells {
+        if let Some(bells) = &self.bells {
             bells.ring(client);
         }
     }

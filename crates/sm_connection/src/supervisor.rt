@@ -13,8 +13,9 @@ pub enum ServerEvent {
     AcceptDelayed(io::Error),
     /// A listener failed. No more connections are accepted, and those that have begun are served for some seconds more.
     AcceptFailed(io::Error),
-    /// A client's connection has waited for a worker for a second. Reported once until one needn't wait.
-    ClientWaits,
+    /// A client's connection has waited for a worker for a second, beside at least this many others: at most one for each
+    /// worker is counted. Reported once until one needn't wait.
+    ClientWaits { others: usize },
     /// Nine tenths of the journal's slots are used. Reported once until a seal.
     AlmostFull { used: u64, slots: u64 },
     /// A change was refused, because the journal has no slot left. Reported once until a seal.

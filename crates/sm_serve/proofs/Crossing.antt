@@ -19,6 +19,7 @@ use Rattle.sm_account.specs.contracts.holds.AdminHolds.TheImpl as AdminHolds
 use Rattle.sm_account.specs.contracts.holds.SeatHolds.TheImpl as SeatHolds
 use Rattle.sm_account.proofs.account.Account.TheSendSync as AccountCrosses
 use Rattle.sm_account.proofs.Crossing.{gauge_sync}
+use Rattle.sm_bells.proofs.bells.Ringer.TheSendSync as RingerCrosses
 use Rattle.sm_serve.specs.contracts.accounts.Accounts as Accounts
 use Rattle.sm_serve.specs.contracts.shared_admin.SharedAdmin as SharedAdmin
 use Rattle.sm_serve.specs.contracts.serving.Common as Common
@@ -44,7 +45,10 @@ module _ (T : RattleType) (g : Ghosts T.Denot) where
             door,
             (
               PatienceCrosses.the_field_sync,
-              (QueueCrosses.the_field_sync, (sealer_sync, (gauge_sync, (FaultsCross.the_field_sync, tt)))),
+              (
+                RingerCrosses.the_field_sync,
+                (QueueCrosses.the_field_sync, (sealer_sync, (gauge_sync, (FaultsCross.the_field_sync, tt)))),
+              ),
             ),
           ),
         ),

@@ -1,7 +1,7 @@
 //! Accepts clients' connections, and passes them to the workers.
 
 use crate::arrived::Arrived;
-use crate::arriving::arrival;
+use crate::crowd::Crowd;
 use crate::entrance::Entrance;
 use crate::faults::Faults;
 use crate::queue::{Arrivals, Offered, Queue};
@@ -16,68 +16,64 @@ const AT_ONCE: u64 = 100;
 /// Milliseconds after which it is reported that a connection waits.
 const LONG: u64 = 1_000;
 
-/// Accepts this number of clients' connections, and passes them to the workers. Returns earlier if there is a fault.
+/// Accepts clients' connections, and passes them to the workers, until no more come or there is a fault. Those that were
+/// accepted before a worker was free are turned away then.
 pub fn admit<C: Entrance, H: Supervisor, R: Wait + Clock>(
     rt: &R,
-    entrance: &mut C,
+    mut crowd: Crowd<C>,
     queue: &Queue,
     to: Arrivals,
     host: &H,
     faults: &Faults,
-    number: u64,
 ) {
     if !faults.is_noted(rt) {
         host.tell(ServerEvent::Listening);
     }
-    let mut told = false;
-    for _ in 0..number {
-        let Some(arrived) = arrival(rt, entrance, host, faults) else {
-            return;
+    for _ in rt.forever() {
+        let Some(arrived) = crowd.next(rt, host, faults) else {
+            break;
         };
-        match pass(rt, queue, &to, host, faults, arrived, told) {
-            Some(waits) => told = waits,
-            None => return,
+        if !pass(rt, &mut crowd, queue, &to, host, faults, arrived) {
+            break;
         }
     }
+    crowd.close(faults.live().turned_away());
 }
 
-/// Passes a connection to a worker. Returns whether it was reported that connections wait, which is done once until one
-/// needn't; or `None` if there is a fault.
-fn pass<H: Supervisor, R: Wait + Clock>(
+/// Passes a connection to a worker. Returns whether more can be passed: not if there is a fault.
+fn pass<C: Entrance, H: Supervisor, R: Wait + Clock>(
     rt: &R,
+    crowd: &mut Crowd<C>,
     queue: &Queue,
     to: &Arrivals,
     host: &H,
     faults: &Faults,
     arrived: Arrived,
-    told: bool,
-) -> Option<bool> {
+) -> bool {
     let mut waiting = match queue.offer(rt, to, arrived, AT_ONCE) {
-        Offered::Taken => return Some(false),
+        Offered::Taken => {
+            crowd.disperse();
+            return true;
+        }
         Offered::Refused(arrived) => arrived,
         Offered::Closed => return close(rt, host, faults),
     };
-    let mut told = told;
     for _ in rt.forever() {
         if faults.is_noted(rt) {
-            waiting.turn_away(faults.live().turned_away());
-            return None;
+            break;
         }
         match queue.offer(rt, to, waiting, LONG) {
-            Offered::Taken => return Some(told),
+            Offered::Taken => return true,
             Offered::Refused(arrived) => waiting = arrived,
             Offered::Closed => return close(rt, host, faults),
         }
-        if !told {
-            host.tell(ServerEvent::ClientWaits);
-        }
-        told = true;
+        crowd.report(host);
     }
     waiting.turn_away(faults.live().turned_away());
-    None
+    false
 }
 
-fn close<H: Supervisor, R: Wait>(rt: &R, host: &H, faults: &Faults) -> Option<bool> {
+fn close<H: Supervisor, R: Wait>(rt: &R, host: &H, faults: &Faults) -> bool {
     faults.note(rt, host, ServeFault::Memory);
-    None
+    false
 }

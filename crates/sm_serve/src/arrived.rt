@@ -10,7 +10,7 @@ use crate::shared_admin::SharedAdmin;
 use crate::turned_away::TurnedAway;
 use crate::visitor::Lobby;
 use sm_account::{Account, Chronicle, Monitor, Supervisor};
-use sm_bells::{Bells, Doorstep};
+use sm_bells::{Doorstep, Ringer};
 use sm_door::{Admin, Door, Naming, Seat, SeatOrSession};
 use sm_history::Gate;
 use sm_kinds::drop_fields;
@@ -104,10 +104,10 @@ impl Guest {
         monitor: &Monitor<H>,
         patience: Patience,
         queue: &Queue,
-        bells: Option<&Bells>,
+        ringer: &Ringer,
     ) -> Account<SeatOrSession<J>, K> {
         let Guest { stream } = self;
-        let step = Doorstep::new(rt, door.gate(), bells, stream.as_raw_fd());
+        let step = Doorstep::new(rt, door.gate(), ringer.bells(), stream.as_raw_fd());
         let input = NotedRead::new(&*stream, account.page());
         let output = NotedWrite::new(&*stream, account.page());
         let (mut account, input, output) = attend_client(

@@ -6,6 +6,7 @@ mod admitting;
 mod arrived;
 mod arriving;
 mod attending;
+mod crowd;
 mod entrance;
 mod faults;
 mod level;

@@ -7,6 +7,7 @@ use crate::accounts::Accounts;
 use crate::admitting::admit;
 use crate::arrived::Arrived;
 use crate::arriving::arrival;
+use crate::crowd::Crowd;
 use crate::entrance::Entrance;
 use crate::faults::Faults;
 use crate::operator::Operator;
@@ -16,7 +17,7 @@ use crate::settling::settle;
 use crate::shared_admin::SharedAdmin;
 use crate::visitor::Lobby;
 use sm_account::{Account, Chronicle, Gauge, Monitor, SealAt, Supervisor, at_rest, opened};
-use sm_bells::Bells;
+use sm_bells::Ringer;
 use sm_door::{Admin, Door, Naming, Seat, SeatOrSession};
 use sm_engine::ServeFault;
 use sm_history::Gate;
@@ -44,11 +45,11 @@ pub struct Numbers {
 /// Accepts the connections of each kind, and returns when their sessions have ended. Clients' connections are served by
 /// a thread for each worker's account, one connection at a time each; administrators' by one more thread, one after
 /// another, all under `admin`. Seals that are due are made under `sealer`. The supervisor is notified when all threads
-/// run. Where there are bells, a `take` waits for a delivery. All accounts are added to `gathered`, which is returned:
-/// its connections are parts of one lawful history, which begins with the one of the door's opening. Its chronicle also
-/// counts the connections that were turned away. The result is an error if a listener failed for good, a thread
-/// couldn't be started or an allocation failed; then the entrances are closed, and the connections that have begun are
-/// shut down if they haven't ended in time.
+/// run. Where the ringer has bells, a `take` waits for a delivery. All accounts are added to `gathered`, which is
+/// returned: its connections are parts of one lawful history, which begins with the one of the door's opening. Its
+/// chronicle also counts the connections that were turned away. The result is an error if a listener failed for good, a
+/// thread couldn't be started or an allocation failed; then the entrances are closed, and the connections that have
+/// begun are shut down if they haven't ended in time.
 pub fn serve<
     J: Naming + Send + Sync,
     K: Chronicle + Send,
@@ -69,12 +70,12 @@ pub fn serve<
     gathered: Account<Admin<J>, K>,
     sealer: Admin<J>,
     numbers: Numbers,
-    bells: Option<&Bells>,
+    ringer: Ringer,
 ) -> (Account<Admin<J>, K>, Result<(), ServeFault>)
     ensures { IfSome result.0.told (OneRun J.opening result.0.token.seen) }
 {
     let accounts = Accounts::new(workers, admin, gathered);
-    let (turned_away, ended) = match Common::new(alloc, host, door, sealer, &numbers, bells) {
+    let (turned_away, ended) = match Common::new(alloc, host, door, sealer, &numbers, ringer) {
         Ok((common, to)) => {
             run_threads(rt, &common, &accounts, clients, admins, numbers, to);
             common.into_result()
@@ -92,7 +93,7 @@ struct Common<'a, J: Naming, G: Gate, H> {
     host: &'a H,
     door: &'a Door<J, G>,
     patience: Patience,
-    bells: Option<&'a Bells>,
+    ringer: Ringer,
     queue: Queue,
     sealer: SharedAdmin<J>,
     gauge: Gauge,
@@ -107,7 +108,7 @@ impl<'a, J: Naming, G: Gate + Drop, H: Supervisor> Common<'a, J, G, H> {
         door: &'a Door<J, G>,
         sealer: Admin<J>,
         numbers: &Numbers,
-        bells: Option<&'a Bells>,
+        ringer: Ringer,
     ) -> Result<(Common<'a, J, G, H>, Arrivals), ServeFault> {
         let Ok(gauge) = Gauge::new(alloc, numbers.slots, numbers.seal_at) else {
             return Err(ServeFault::Memory);
@@ -120,7 +121,7 @@ impl<'a, J: Naming, G: Gate + Drop, H: Supervisor> Common<'a, J, G, H> {
             host,
             door,
             patience: numbers.patience,
-            bells,
+            ringer,
             queue,
             sealer: SharedAdmin::new(sealer),
             gauge,
@@ -136,7 +137,7 @@ impl<'a, J: Naming, G: Gate + Drop, H: Supervisor> Common<'a, J, G, H> {
             host: _,
             door: _,
             patience: _,
-            bells: _,
+            ringer: _,
             queue,
             sealer: _,
             gauge: _,
@@ -185,15 +186,8 @@ fn run_threads<
         if started.is_err() {
             faults.miss_thread(rt, common.host);
         }
-        admit(
-            rt,
-            clients,
-            &common.queue,
-            to,
-            common.host,
-            faults,
-            numbers.clients,
-        );
+        let crowd = Crowd::new(common.alloc, clients, numbers.workers, numbers.clients);
+        admit(rt, crowd, &common.queue, to, common.host, faults);
         faults.end_connections(rt, common.patience.end);
     });
 }
@@ -247,7 +241,7 @@ fn serve_clients<J: Naming, K: Chronicle, G: Gate + Drop, H: Operator, R: Wait +
             &monitor,
             common.patience,
             &common.queue,
-            common.bells,
+            &common.ringer,
         );
         live.leave(rt, number);
     }

@@ -127,7 +127,12 @@ impl<'a, R: Wait> Console<'a, R> {
                     "warning: the journal is almost full: {used} of {slots} slots are used\n"
                 )?
             }
-            ServerEvent::ClientWaits => return Ok(LogLines::Fixed(CLIENT_WAITS)),
+            ServerEvent::ClientWaits { others: 0 } => return Ok(LogLines::Fixed(CLIENT_WAITS)),
+            ServerEvent::ClientWaits { others } => {
+                format!(in alloc;
+                    "warning: a client has waited for a worker for a second, beside at least {others} more\n"
+                )?
+            }
             ServerEvent::Full => return Ok(LogLines::Fixed(FULL)),
             ServerEvent::MemoryShort => return Ok(LogLines::Fixed(MEMORY_SHORT)),
         };

@@ -7,7 +7,7 @@ use crate::console::{Console, Entrances};
 use crate::passed::Passed;
 use crate::sockets::{Claim, OWNER_ALONE};
 use sm_account::{Account, Forgets};
-use sm_bells::{Bells, Ringer};
+use sm_bells::Ringer;
 use sm_command::{Ending, Sockets};
 use sm_connection::SealAt;
 use sm_core::manager_identity;
@@ -18,7 +18,6 @@ use sm_kinds::{Identity, Places};
 use sm_policy::Prepared;
 use sm_script::ScriptFault;
 use sm_serve::{Numbers, Patience, serve};
-use std::alloc::Global;
 use std::marker::Brand;
 use std::os::unix::net::UnixListener;
 use std::rt::{Clock, Files, Net};
@@ -39,6 +38,10 @@ pub fn serve_policy<'a, R: Files + Net + Threads + Wait + Clock + Sync>(
     let Ok(who) = manager_identity(host.alloc()) else {
         return Err(Ending::Memory);
     };
+    let ringer = match Ringer::new(host.alloc(), sockets.workers, sockets.take_wait) {
+        Ok(ringer) => ringer,
+        Err(error) => return Err(Ending::of_file(sockets.clients, error)),
+    };
     open::<Brand, R>(
         host,
         rt,
@@ -46,6 +49,7 @@ pub fn serve_policy<'a, R: Files + Net + Threads + Wait + Clock + Sync>(
         who,
         policy,
         places,
+        ringer,
         sockets,
         passed,
     )
@@ -59,6 +63,7 @@ fn open<'a, J: Naming + Send + Sync, R: Files + Net + Threads + Wait + Clock + S
     who: Identity,
     policy: Prepared,
     places: Places,
+    ringer: Ringer,
     sockets: Sockets<'a>,
     passed: Passed,
 ) -> Result<(), Ending<'a>>
@@ -68,9 +73,7 @@ fn open<'a, J: Naming + Send + Sync, R: Files + Net + Threads + Wait + Clock + S
     let alloc = host.alloc();
     let slots = places.entries();
     let clients = MOST_CLIENTS.min(sockets.workers as usize);
-    let bells = bells_of(alloc, &sockets)?;
-    let ringer = Ringer::new(bells.as_ref());
-    let opened = Door::<J, Ringer<'_>>::open_for(
+    let opened = Door::<J, Ringer>::open_for(
         rt, alloc, unnamed, who, policy, places, ringer, clients,
     );
     let (door, seats, mut admins) = match opened {
@@ -93,17 +96,6 @@ fn open<'a, J: Naming + Send + Sync, R: Files + Net + Threads + Wait + Clock + S
     let ended = listen(host, rt, &door, tokens, slots, sockets, passed);
     door.close(rt);
     ended
-}
-
-/// Makes a bell for each worker, if a `take` is to wait.
-fn bells_of<'a>(alloc: Global, sockets: &Sockets<'a>) -> Result<Option<Bells>, Ending<'a>> {
-    if sockets.take_wait == 0 {
-        return Ok(None);
-    }
-    match Bells::new(alloc, sockets.workers, sockets.take_wait) {
-        Ok(bells) => Ok(Some(bells)),
-        Err(error) => Err(Ending::of_file(sockets.clients, error)),
-    }
 }
 
 /// The tokens of a server: for clients' connections, for administrators', for its own seals, and for what became of all.
@@ -149,7 +141,7 @@ fn open_socket<'a, R: Files + Net>(
 fn listen<'a, J: Naming + Send + Sync, R: Files + Net + Threads + Wait + Clock + Sync>(
     host: &HostRuntime,
     rt: &R,
-    door: &Door<J, Ringer<'_>>,
+    door: &Door<J, Ringer>,
     tokens: Tokens<J>,
     slots: u32,
     sockets: Sockets<'a>,
@@ -185,7 +177,7 @@ fn remove<R: Files>(rt: &R, claim: Option<Claim>) {
 fn serve_at<'a, J: Naming + Send + Sync, R: Threads + Wait + Clock + Sync>(
     host: &HostRuntime,
     rt: &R,
-    door: &Door<J, Ringer<'_>>,
+    door: &Door<J, Ringer>,
     tokens: Tokens<J>,
     slots: u32,
     sockets: Sockets<'a>,
@@ -226,7 +218,7 @@ fn serve_under<'a, J: Naming + Send + Sync, R: Threads + Wait + Clock + Sync>(
     host: &HostRuntime,
     rt: &R,
     console: &Console<R>,
-    door: &Door<J, Ringer<'_>>,
+    door: &Door<J, Ringer>,
     tokens: Tokens<J>,
     numbers: Numbers,
     entrances: Entrances,
@@ -242,6 +234,9 @@ fn serve_under<'a, J: Naming + Send + Sync, R: Threads + Wait + Clock + Sync>(
         gathered,
         sealer,
     } = tokens;
+    let Ok(ringer) = door.gate().share() else {
+        return Err(Ending::Memory);
+    };
     let (_, ended) = serve(
         rt,
         host.alloc(),
@@ -254,7 +249,7 @@ fn serve_under<'a, J: Naming + Send + Sync, R: Threads + Wait + Clock + Sync>(
         gathered,
         sealer,
         numbers,
-        door.gate().bells(),
+        ringer,
     );
     match ended {
         Ok(()) => Ok(()),

@@ -114,6 +114,7 @@ fn push_heard(text: &mut Vec<u8>, came: &Heard, wanted: &Heard) -> Result<(), Al
         ("delayed", came.delayed, wanted.delayed),
         ("failed", came.failed, wanted.failed),
         ("waits", came.waits, wanted.waits),
+        ("others", came.others, wanted.others),
         ("almost_full", came.almost_full, wanted.almost_full),
         ("full", came.full, wanted.full),
         ("short", came.short, wanted.short),

@@ -85,6 +85,61 @@ fn a_client_that_waits_is_told_once(rt: HostRuntime) {
     holds(&rt, rt.alloc(), 1000, numbers, A_CLIENT_THAT_WAITS, heard);
 }
 
+/// Three clients, and a worker for one.
+const TWO_CLIENTS_THAT_WAIT: &[Step] = &[
+    Say(0, HELLO, b"client 1\n"),
+    Say(1, HELLO, b""),
+    Say(2, HELLO, b""),
+    Over(3),
+    Say(0, b"bye\n", b"bye\n"),
+    Say(1, b"bye\n", b"client 2\nbye\n"),
+    Say(2, b"bye\n", b"client 3\nbye\n"),
+];
+
+#[test]
+fn those_who_wait_are_counted(rt: HostRuntime) {
+    let mut numbers = numbers(1, 3, 1);
+    numbers.patience.admin = 3;
+    let heard = Heard {
+        waits: 1,
+        others: 1,
+        ..LISTENING
+    };
+    holds(&rt, rt.alloc(), 1000, numbers, TWO_CLIENTS_THAT_WAIT, heard);
+}
+
+/// Four clients and a worker for one, where those that wait say nothing. The server ends before it accepts the last one.
+const CLIENTS_THAT_ARE_TURNED_AWAY: &[Step] = &[
+    Say(0, HELLO, b"client 1\n"),
+    Over(1),
+    Over(2),
+    Say(0, b"bye\n", b"bye\n"),
+    Over(0),
+];
+
+#[test]
+fn those_who_wait_are_turned_away(rt: HostRuntime) -> Result<(), Fail> {
+    let steps = CLIENTS_THAT_ARE_TURNED_AWAY;
+    let mut numbers = numbers(1, 4, 1);
+    numbers.patience.admin = 3;
+    let (mut visits, exchange) = connected(&rt, rt.alloc(), numbers, steps)?;
+    // The administrators' listener fails for good once the first of them, who says nothing, has taken too long.
+    visits.numbers.admins = 2;
+    let left = at_a_door(&rt, rt.alloc(), 1000, NoGate, visits, exchange);
+    let heard = Heard {
+        waits: 1,
+        others: 1,
+        ..ENDED_BY_ITS_LISTENER.heard
+    };
+    let wanted = Left {
+        turned_away: 2,
+        heard,
+        ..ENDED_BY_ITS_LISTENER
+    };
+    is_left(&rt, rt.alloc(), &[steps], left, wanted);
+    Ok(())
+}
+
 /// Two clients and a worker for one, where the client that waits says nothing and is turned away.
 const A_CLIENT_THAT_IS_TURNED_AWAY: &[Step] = &[
     Say(0, HELLO, b"client 1\n"),

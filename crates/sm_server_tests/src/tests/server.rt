@@ -8,6 +8,7 @@ use super::remembers::Remembers;
 use super::steps::Step::{self, Close, Over, ReloadStricter, Say, SayAll, Vanish};
 use super::steps::connected;
 use sm_account::Account;
+use sm_bells::Ringer;
 use sm_connection::{SealAt, ServerEvent, Supervisor};
 use sm_door::{Door, Naming, Seat, UnnamedRegistry};
 use sm_engine::ServeFault;
@@ -65,6 +66,8 @@ pub struct Heard {
     pub delayed: u64,
     pub failed: u64,
     pub waits: u64,
+    /// The connections that waited beside those, each time.
+    pub others: u64,
     pub almost_full: u64,
     pub full: u64,
     pub short: u64,
@@ -79,6 +82,7 @@ pub const LISTENING: Heard = Heard {
     delayed: 0,
     failed: 0,
     waits: 0,
+    others: 0,
     almost_full: 0,
     full: 0,
     short: 0,
@@ -102,6 +106,7 @@ pub struct Ear {
     delayed: AtomicU64,
     failed: AtomicU64,
     waits: AtomicU64,
+    others: AtomicU64,
     almost_full: AtomicU64,
     full: AtomicU64,
     short: AtomicU64,
@@ -117,6 +122,7 @@ impl Ear {
             delayed: AtomicU64::new(0),
             failed: AtomicU64::new(0),
             waits: AtomicU64::new(0),
+            others: AtomicU64::new(0),
             almost_full: AtomicU64::new(0),
             full: AtomicU64::new(0),
             short: AtomicU64::new(0),
@@ -131,6 +137,7 @@ impl Ear {
             delayed: self.delayed.load(Ordering::SeqCst),
             failed: self.failed.load(Ordering::SeqCst),
             waits: self.waits.load(Ordering::SeqCst),
+            others: self.others.load(Ordering::SeqCst),
             almost_full: self.almost_full.load(Ordering::SeqCst),
             full: self.full.load(Ordering::SeqCst),
             short: self.short.load(Ordering::SeqCst),
@@ -146,7 +153,10 @@ impl Supervisor for Ear {
             ServerEvent::Listening => &self.listening,
             ServerEvent::AcceptDelayed(_) => &self.delayed,
             ServerEvent::AcceptFailed(_) => &self.failed,
-            ServerEvent::ClientWaits => &self.waits,
+            ServerEvent::ClientWaits { others } => {
+                self.others.fetch_add(others as u64, Ordering::SeqCst);
+                &self.waits
+            }
             ServerEvent::AlmostFull { .. } => &self.almost_full,
             ServerEvent::Full => &self.full,
             ServerEvent::MemoryShort => &self.short,
@@ -373,7 +383,7 @@ fn serves<
         gathered,
         sealer,
         numbers,
-        None,
+        Ringer::silent(),
     );
     let said = talking.join(rt);
     let chronicle = account.into_chronicle();

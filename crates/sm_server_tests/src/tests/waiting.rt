@@ -1,6 +1,6 @@
 //! A `take` that waits for a delivery to its client.
 
-use sm_bells::{Bells, Doorstep, Ringer};
+use sm_bells::{Doorstep, Ringer};
 use sm_history::{Gate, NoGate};
 use std::process::Abort;
 use std::rt::Clock;
@@ -31,9 +31,8 @@ fn waited<R: Clock + Abort, G: Gate>(rt: &R, step: &G) -> Duration {
 
 #[test]
 fn kept_deliveries_are_taken_without_a_wait(rt: HostRuntime) -> Result<(), Fail> {
-    let bells = Bells::new(rt.alloc(), 1, LONG).ok().expect(&rt, "bells");
-    let ringer = Ringer::new(Some(&bells));
-    let step = Doorstep::new(&rt, &NoGate, Some(&bells), NO_CONNECTION);
+    let ringer = Ringer::new(rt.alloc(), 1, LONG).ok().expect(&rt, "bells");
+    let step = Doorstep::new(&rt, &NoGate, ringer.bells(), NO_CONNECTION);
     step.connect(CLIENT);
     for _ in 0..3 {
         ringer.deliver(CLIENT);
@@ -47,9 +46,8 @@ fn kept_deliveries_are_taken_without_a_wait(rt: HostRuntime) -> Result<(), Fail>
 
 #[test]
 fn a_take_waits_while_others_get_deliveries(rt: HostRuntime) -> Result<(), Fail> {
-    let bells = Bells::new(rt.alloc(), 2, SHORT).ok().expect(&rt, "bells");
-    let ringer = Ringer::new(Some(&bells));
-    let step = Doorstep::new(&rt, &NoGate, Some(&bells), NO_CONNECTION);
+    let ringer = Ringer::new(rt.alloc(), 2, SHORT).ok().expect(&rt, "bells");
+    let step = Doorstep::new(&rt, &NoGate, ringer.bells(), NO_CONNECTION);
     step.connect(CLIENT);
     ringer.deliver(OTHER);
     assert!(&rt; waited(&rt, &step) >= Duration::from_millis(u64::from(SHORT)));
@@ -63,9 +61,8 @@ fn a_take_waits_while_others_get_deliveries(rt: HostRuntime) -> Result<(), Fail>
 
 #[test]
 fn a_take_waits_for_nothing_that_was_not_there(rt: HostRuntime) -> Result<(), Fail> {
-    let bells = Bells::new(rt.alloc(), 1, SHORT).ok().expect(&rt, "bells");
-    let ringer = Ringer::new(Some(&bells));
-    let step = Doorstep::new(&rt, &NoGate, Some(&bells), NO_CONNECTION);
+    let ringer = Ringer::new(rt.alloc(), 1, SHORT).ok().expect(&rt, "bells");
+    let step = Doorstep::new(&rt, &NoGate, ringer.bells(), NO_CONNECTION);
     step.connect(CLIENT);
     ringer.deliver(CLIENT);
     step.before_take();
@@ -76,9 +73,8 @@ fn a_take_waits_for_nothing_that_was_not_there(rt: HostRuntime) -> Result<(), Fa
 
 #[test]
 fn a_ring_ends_a_wait(rt: HostRuntime) -> Result<(), Fail> {
-    let bells = Bells::new(rt.alloc(), 1, LONG).ok().expect(&rt, "bells");
-    let ringer = Ringer::new(Some(&bells));
-    let step = Doorstep::new(&rt, &NoGate, Some(&bells), NO_CONNECTION);
+    let ringer = Ringer::new(rt.alloc(), 1, LONG).ok().expect(&rt, "bells");
+    let step = Doorstep::new(&rt, &NoGate, ringer.bells(), NO_CONNECTION);
     step.connect(CLIENT);
     let far = Duration::from_secs(5);
     thread::scope(thread::scope_env(), &rt, |scope| {
