@@ -6,7 +6,7 @@ ghost use Rattle.sm_account.specs.Served.{IsPartOf, account};
 use crate::chronicle::Chronicle;
 use crate::holds::Holds;
 use crate::page::Page;
-use sm_kinds::drop_fields;
+use sm_values::drop_fields;
 use std::marker::Model;
 
 /// A token with a chronicle. Each connection of the chronicle was answered from beginnings of the history that the token

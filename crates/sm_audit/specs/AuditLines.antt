@@ -1,9 +1,9 @@
 -- Audit lines, in the form of SELinux's messages.
 use Rattle.std.specs.Prelude.{ℕ, Bool, List, [], ◌++◌, codes, Option, Some, None, unwrap_or, if◌then◌else◌}
-use Rattle.sm_kinds.specs.Messages.{name_text, numbered}
-use Rattle.sm_kinds.specs.Permissions.{class_word, perm_word}
-use Rattle.sm_kinds.specs.declared.perms.Perms.{Perms}
-use Rattle.sm_kinds.specs.declared.identity.Identity.{Identity}
+use Rattle.sm_values.specs.Messages.{name_text, numbered}
+use Rattle.sm_values.specs.Permissions.{class_word, perm_word}
+use Rattle.sm_values.specs.declared.perms.Perms.{Perms}
+use Rattle.sm_values.specs.declared.identity.Identity.{Identity}
 use Rattle.sm_history.specs.declared.denial.Denial.{Denial, TheVariants.Rule, TheVariants.App, TheVariants.Isolated}
 use Rattle.sm_history.specs.declared.records.Record.{Record}
 

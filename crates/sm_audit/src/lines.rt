@@ -2,12 +2,12 @@
 
 ghost use Rattle.std.specs.Prelude.{◌≡◌, ◌++◌, OnOk, IfOk, MatchResult, codes, option_map, unwrap_or, []};
 ghost use Rattle.std.specs.List.{flat_map};
-ghost use Rattle.sm_kinds.specs.Permissions.{perm_word};
+ghost use Rattle.sm_values.specs.Permissions.{perm_word};
 ghost use Rattle.sm_audit.specs.AuditLines.{audit_line, place_text, cause_text, missing_text, permissive_text};
 ghost use Rattle.sm_audit.specs.AuditLines.{name_field, process_text, target_text, scope_text};
 
 use sm_history::{Denial, Record};
-use sm_kinds::{Context, Identity, Name, Perms, push_name, push_numbered};
+use sm_values::{Context, Identity, Name, Perms, push_name, push_numbered};
 use std::alloc::{AllocError, Global};
 
 /// Returns the line of a record, with its newline: one line, whatever the name is.

@@ -1,7 +1,7 @@
 //! The bells of a server.
 
 use crate::bell::Bell;
-use sm_history::Gate;
+use sm_history::{Effect, Gate};
 use std::alloc::{AllocError, Global};
 use std::io::{self, ErrorKind};
 use std::sync::Arc;
@@ -90,6 +90,13 @@ impl Ringer {
         }
     }
 
+    /// Rings the bell of a client's connection, if it has one.
+    pub fn ring(&self, client: u32) {
+        if let Some(bells) = &self.bells {
+            bells.ring(client);
+        }
+    }
+
     /// Returns its bells.
     pub fn bells(&self) -> Option<&Bells> {
         match &self.bells {
@@ -106,9 +113,17 @@ impl Gate for Ringer {
 
     fn leave(&self, _line: u64) {}
 
-    fn deliver(&self, client: u32) {
+    fn changed(&self, effects: &[Effect]) {
         if let Some(bells) = &self.bells {
-            bells.ring(client);
+            for effect in effects {
+                if let Effect::Delivers {
+                    client,
+                    delivery: _,
+                } = effect
+                {
+                    bells.ring(*client);
+                }
+            }
         }
     }
 }

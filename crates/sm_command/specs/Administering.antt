@@ -2,7 +2,7 @@
 use Rattle.std.specs.Prelude.{ℕ, List, [], ◌∷◌, ◌++◌, Bool, ◌&&◌, ◌||◌, not, ◌==◌, ◌-◌, codes, length, take, drop}
 use Rattle.std.specs.Prelude.{if◌then◌else◌, Option, None, option_map}
 use Rattle.std.specs.List.{count_by, ends_with, list_any, position, starts_with}
-use Rattle.sm_kinds.specs.Messages.{numbered}
+use Rattle.sm_values.specs.Messages.{numbered}
 
 -- This is `explain SOURCE TARGET CLASS PERM`.
 abbrev pub explain_line : List ℕ → List ℕ → List ℕ → List ℕ → List ℕ

@@ -1,8 +1,8 @@
 -- The line on standard error of a program that ends without an answer.
 use Rattle.std.specs.Prelude.{◌≡◌, ℕ, List, ◌++◌, codes}
-use Rattle.sm_kinds.specs.declared.class.Class.{Class}
-use Rattle.sm_kinds.specs.declared.perms.Perms.{Perms}
-use Rattle.sm_kinds.specs.Messages.{access_words}
+use Rattle.sm_values.specs.declared.class.Class.{Class}
+use Rattle.sm_values.specs.declared.perms.Perms.{Perms}
+use Rattle.sm_values.specs.Messages.{access_words}
 use Rattle.sm_history.specs.declared.denial.Denial.TheVariants.{Rule, App, Isolated}
 use Rattle.sm_history.specs.declared.refusal.Refusal.{Refusal}
 use Rattle.sm_history.specs.declared.refusal.Refusal.TheVariants as refusals

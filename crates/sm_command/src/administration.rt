@@ -2,7 +2,7 @@
 
 use crate::question::NewFiles;
 use clap::ArgMatches;
-use sm_kinds::all_graphic;
+use sm_values::all_graphic;
 
 /// A request to a running server.
 #[derive(Clone, Copy, PartialEq, Eq)]

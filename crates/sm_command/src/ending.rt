@@ -7,9 +7,9 @@ ghost use Rattle.sm_command.specs.Endings.{Tells};
 
 use sm_engine::{Fault, ServeFault};
 use sm_history::{Denial, Refusal};
-use sm_kinds::{Class, Perms, push_access};
 use sm_questions::refused_line;
 use sm_script::ScriptFault;
+use sm_values::{Class, Perms, push_access};
 use std::alloc::{AllocError, Global};
 use std::io::{self, ErrorKind};
 use thiserror::Error;

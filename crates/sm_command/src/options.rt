@@ -9,7 +9,7 @@ use crate::question::{Question, RuleFilterWords, question_of, rule_filter_of};
 use crate::sockets::{DEFAULT_SLOTS, Sockets, misused, slots_of, sockets_of};
 use clap::error::ErrorKind;
 use clap::{ArgMatches, Error};
-use sm_kinds::Places;
+use sm_values::Places;
 use std::alloc::{AllocError, Global};
 use std::rt::Env;
 use std::{env, io};

@@ -4,7 +4,7 @@ ghost use Rattle.std.specs.List.{count_by, position};
 ghost use Rattle.std.specs.Prelude.{◌≡◌, ◌==◌, ◌++◌, codes, IfOk, OnOk, option_map};
 ghost use Rattle.sm_command.specs.Administering as spec;
 
-use sm_kinds::push_numbered;
+use sm_values::push_numbered;
 use std::alloc::{AllocError, Global};
 
 /// Returns `explain SOURCE TARGET CLASS PERM`.

@@ -1,7 +1,7 @@
 -- What the answers to a connection, and their audit records, promise of the histories that its token sees.
 use Rattle.std.specs.Prelude.{◌≡◌, ◌⊎◌, MatchBool, List, [], Option, Some, None}
-use Rattle.sm_kinds.specs.declared.identity.Identity.{Identity}
-use Rattle.sm_kinds.specs.declared.number.ClientId.{ClientId}
+use Rattle.sm_values.specs.declared.identity.Identity.{Identity}
+use Rattle.sm_values.specs.declared.number.ClientId.{ClientId}
 use Rattle.sm_history.specs.declared.by.By.{By, TheVariants.Manager, TheVariants.Client, TheVariants.Admin}
 use Rattle.sm_history.specs.declared.event.Event.{Event, TheVariants.Die, TheVariants.Reload}
 use Rattle.sm_history.specs.declared.outcome.Outcome.TheVariants.{Connected, Died}

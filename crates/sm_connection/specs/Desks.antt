@@ -1,6 +1,6 @@
 -- How a desk answers the items of a session, by its answers to commands.
 use Rattle.std.specs.Prelude.{◌≡◌, ◌⊎◌, Ok}
-use Rattle.sm_kinds.specs.Reading.{Fails}
+use Rattle.sm_values.specs.Reading.{Fails}
 use Rattle.sm_policy.specs.declared.fault.PolicyFault.{PolicyFault}
 use Rattle.sm_policy.specs.Policy.{Policy}
 use Rattle.sm_policy.specs.Preparing.{is_memory, prepared}

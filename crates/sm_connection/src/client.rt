@@ -14,7 +14,7 @@ use crate::refusals::{not_connected, not_yours};
 use crate::response::Response;
 use sm_door::{Door, Naming, Seat, SeatOrSession, Session};
 use sm_history::{Event, Gate, Outcome, Query, Refusal, Reply, is_death};
-use sm_kinds::{Identity, drop_fields};
+use sm_values::{Identity, drop_fields};
 use sm_wire::Request;
 use std::alloc::Global;
 use std::sync::Wait;

@@ -1,7 +1,7 @@
 //! Commands of a session to its desk.
 
-use sm_kinds::Identity;
 use sm_policy::Prepared;
+use sm_values::Identity;
 use sm_wire::Request;
 
 /// A command of a session to its desk.

@@ -13,7 +13,7 @@ use crate::owned::{command_bytes, outcome_bytes};
 use crate::response::Response;
 use crate::supervisor::Supervisor;
 use sm_history::{Outcome, Refusal, Reply};
-use sm_kinds::ClientId;
+use sm_values::ClientId;
 
 /// When a connection's desk calls the function beside it.
 #[derive(Clone, Copy)]

@@ -2,7 +2,7 @@
 use Rattle.std.proofs.Common.{◌≡◌, ℕ, suc, ◌+◌, ◌<◌, ◌≤◌, true, false, not, cond, eqb, List, [], ◌∷◌, length, take}
 use Rattle.std.proofs.Common.{drop, refl, arith}
 use Rattle.std.specs.List.{prefix_len}
-use Rattle.sm_kinds.specs.Lines.{is_in_line}
+use Rattle.sm_values.specs.Lines.{is_in_line}
 use Rattle.sm_contexts.specs.Lines.{lines, onto_first}
 
 pub first_line : (bytes : List ℕ) → 0 < length bytes

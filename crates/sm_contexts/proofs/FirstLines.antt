@@ -6,12 +6,12 @@ use Rattle.std.specs.List.{list_any}
 use Rattle.std.specs.Option.{option_or}
 use Rattle.std.specs.Str.{bytes_eq}
 use Rattle.std.proofs.lemmas.Slice.Eq.{bytes_eq-Decides}
-use Rattle.sm_kinds.specs.Contexts.{is_context}
+use Rattle.sm_values.specs.Contexts.{is_context}
 use Rattle.sm_contexts.specs.declared.fault.ContextsFault.TheVariants.{TooLarge, BadLine, Conflict, TwoDefaults}
 use Rattle.sm_contexts.specs.declared.fault.ContextsFault.TheVariants.{NoDefault}
 use Rattle.sm_contexts.specs.Lines.{lines, first_word, after_word}
-use Rattle.sm_kinds.specs.Reading.{◌>>=◌}
-use Rattle.sm_kinds.specs.declared.limits.TheConstants.{MOST_TEXT_BYTES}
+use Rattle.sm_values.specs.Reading.{◌>>=◌}
+use Rattle.sm_values.specs.declared.limits.TheConstants.{MOST_TEXT_BYTES}
 use Rattle.sm_contexts.specs.declared.limits.TheConstants.{MOST_ENTRY_LINES}
 use Rattle.sm_contexts.specs.Reading.{Entry, Read, has_key, default_key, is_entry, placed, with_entry, with_line}
 use Rattle.sm_contexts.specs.Reading.{entries_from, read, line_and_context, line_of, is_line_of, AreFirstLines}

@@ -5,8 +5,8 @@ use Rattle.std.specs.List.{list_any}
 use Rattle.sm_contexts.specs.declared.fault.ContextsFault.{ContextsFault}
 use Rattle.sm_contexts.specs.declared.fault.ContextsFault.TheVariants.{NoDefault}
 use Rattle.sm_contexts.specs.Reading.{Entry}
-use Rattle.sm_kinds.specs.Reading.{Fails}
-use Rattle.sm_kinds.proofs.Readers.{fails_along}
+use Rattle.sm_values.specs.Reading.{Fails}
+use Rattle.sm_values.proofs.Readers.{fails_along}
 use Rattle.sm_contexts.specs.Reading.{Read, is_memory, with_line, entries_from, has_key, default_key}
 
 pub runs_on : (n : ℕ) (entries more : List Entry) (line : List ℕ) (before lines : List (List ℕ))

@@ -6,9 +6,9 @@ use Rattle.std.specs.Option.{option_or}
 use Rattle.std.specs.List.{list_any}
 use Rattle.std.specs.Str.{bytes_eq}
 use Rattle.std.specs.Borrow.{Bor}
-use Rattle.sm_kinds.specs.Contexts.{is_context}
-use Rattle.sm_kinds.specs.Reading.{◌>>=◌}
-use Rattle.sm_kinds.specs.declared.limits.TheConstants.{MOST_TEXT_BYTES}
+use Rattle.sm_values.specs.Contexts.{is_context}
+use Rattle.sm_values.specs.Reading.{◌>>=◌}
+use Rattle.sm_values.specs.declared.limits.TheConstants.{MOST_TEXT_BYTES}
 use Rattle.sm_contexts.specs.declared.limits.TheConstants.{MOST_ENTRY_LINES}
 use Rattle.sm_contexts.specs.declared.fault.ContextsFault.{ContextsFault}
 use Rattle.sm_contexts.specs.declared.fault.ContextsFault.TheVariants.{TooLarge, BadLine, Conflict, TwoDefaults}

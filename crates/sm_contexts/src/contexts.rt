@@ -3,7 +3,7 @@
 use crate::entries::Entries;
 use crate::fault::ContextsFault;
 use crate::reading::entries_of;
-use sm_kinds::{Context, drop_fields};
+use sm_values::{Context, drop_fields};
 use std::alloc::Global;
 use std::marker::Model;
 
@@ -35,7 +35,7 @@ impl Model for Contexts {
 
 impl Contexts {
     ghost use Rattle.std.specs.Prelude.{◌≡◌, ◌<◌, Some, IfOk, length, option_map, slice_get};
-    ghost use Rattle.sm_kinds.specs.Reading.{Gives};
+    ghost use Rattle.sm_values.specs.Reading.{Gives};
     ghost use Rattle.sm_contexts.specs.Reading.{AreFirstLines, is_memory, label, label_place, line_and_context, read};
     ghost use Rattle.std.specs.List.{list_any};
     ghost use Rattle.sm_contexts.specs.Reading.{has_key, seen};

@@ -2,7 +2,7 @@
 
 use crate::fault::ContextsFault;
 use indexmap::IndexMap;
-use sm_kinds::{Context, drop_fields};
+use sm_values::{Context, drop_fields};
 use std::alloc::Global;
 use std::marker::Model;
 
@@ -45,7 +45,7 @@ impl Entries {
     ghost use Rattle.std.specs.Prelude.{◌≡◌, ◌<◌, ◌≤◌, ◌+◌, [], find, length, option_map, position, slice_get, IfSome};
     ghost use Rattle.std.specs.Prelude.{OnOk};
     ghost use Rattle.std.specs.List.{list_any};
-    ghost use Rattle.sm_kinds.specs.Reading.{Gives};
+    ghost use Rattle.sm_values.specs.Reading.{Gives};
     ghost use Rattle.sm_contexts.specs.Reading.{is_memory, with_entry, has_key, default_key};
     ghost use Rattle.sm_contexts.specs.Keyed.{entry, first_line};
 

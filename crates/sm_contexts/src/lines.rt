@@ -2,10 +2,10 @@
 
 ghost use Rattle.std.specs.Prelude.{◌≡◌, ◌≤◌, ◌+◌, ◌++◌, [], length, take, drop, option_map, option_to_list, IfNone};
 ghost use Rattle.std.specs.List.{prefix_len};
-ghost use Rattle.sm_kinds.specs.Lines.{is_blank};
+ghost use Rattle.sm_values.specs.Lines.{is_blank};
 ghost use Rattle.sm_contexts.specs.Lines as spec;
 
-use sm_kinds::{behind, is_blank, line_len};
+use sm_values::{behind, is_blank, line_len};
 use std::marker::Model;
 
 fn blank_len(bytes: &[u8]) -> usize

@@ -2,14 +2,14 @@
 
 ghost use Rattle.std.specs.Prelude.{◌≡◌, ◌≤◌, ◌<◌, ◌+◌, length, count_by, IfOk};
 ghost use Rattle.sm_contexts.specs.Reading as spec;
-ghost use Rattle.sm_kinds.specs.Reading.{Gives};
+ghost use Rattle.sm_values.specs.Reading.{Gives};
 ghost use Rattle.sm_contexts.specs.Reading.{IsWhole, is_memory};
 
 use crate::entries::Entries;
 use crate::fault::ContextsFault;
 use crate::limits::MOST_ENTRY_LINES;
 use crate::lines::{Lines, first_word};
-use sm_kinds::{Context, ContextError, MOST_TEXT_BYTES};
+use sm_values::{Context, ContextError, MOST_TEXT_BYTES};
 use std::alloc::Global;
 
 fn is_entry(line: &[u8]) -> bool

@@ -3,8 +3,8 @@ use Rattle.std.proofs.Common.{◌≡◌, inl, inr, ℕ, true, false, ◌&&◌, L
 use Rattle.std.proofs.Common.{Option, Some, refl, ap, sym, ◌∙◌, subst}
 use Rattle.std.specs.Prelude.{is_some}
 use Rattle.std.proofs.lemmas.List.{append_assoc, append-nil}
-use Rattle.sm_kinds.specs.declared.number.Node.{Node}
-use Rattle.sm_kinds.specs.declared.number.ObjRef.{ObjRef}
+use Rattle.sm_values.specs.declared.number.Node.{Node}
+use Rattle.sm_values.specs.declared.number.ObjRef.{ObjRef}
 use Rattle.sm_history.specs.Records.{Moment}
 use Rattle.sm_history.specs.declared.records.Record.{Record}
 use Rattle.sm_history.specs.declared.refusal.Refusal.TheVariants.{Failed}

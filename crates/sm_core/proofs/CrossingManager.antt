@@ -5,12 +5,12 @@ use denote.Struct.Field as Field
 use denote.Struct.Declared as struct
 use denote.Enum.Declared as enum
 use Rattle.std.proofs.Crossing.{crosses, Vec-send}
-use Rattle.sm_kinds.proofs.identity.Identity.TheSendSync as Identity
-use Rattle.sm_kinds.proofs.name.Name.TheSendSync as Name
-use Rattle.sm_kinds.proofs.payload.Payload.TheSendSync as Payload
-use Rattle.sm_kinds.proofs.refs.Refs.TheSendSync as Refs
-use Rattle.sm_kinds.proofs.number.Node.TheSendSync as Node
-use Rattle.sm_kinds.proofs.number.ObjRef.TheSendSync as ObjRef
+use Rattle.sm_values.proofs.identity.Identity.TheSendSync as Identity
+use Rattle.sm_values.proofs.name.Name.TheSendSync as Name
+use Rattle.sm_values.proofs.payload.Payload.TheSendSync as Payload
+use Rattle.sm_values.proofs.refs.Refs.TheSendSync as Refs
+use Rattle.sm_values.proofs.number.Node.TheSendSync as Node
+use Rattle.sm_values.proofs.number.ObjRef.TheSendSync as ObjRef
 use Rattle.sm_policy.proofs.Crossing.{prepared_send}
 use Rattle.sm_history.specs.contracts.by.By as By
 use Rattle.sm_history.specs.contracts.event.Event as Event
@@ -44,7 +44,7 @@ use Rattle.sm_history.specs.contracts.effect.Watch as Watch
 use Rattle.sm_history.proofs.effect.Watch.TheSendSync as WatchCrosses
 use Rattle.sm_history.specs.contracts.turn.TurnRow as Turn
 use Rattle.sm_history.proofs.turn.TurnRow.TheSendSync as TurnCrosses
-use Rattle.sm_kinds.specs.contracts.identity.Identity as Who
+use Rattle.sm_values.specs.contracts.identity.Identity as Who
 use Rattle.sm_policy.specs.contracts.prepared.Prepared as Prepared
 use Rattle.sm_history.specs.contracts.replay.tables.Tables as Tables
 use Rattle.sm_history.specs.contracts.rows.Rows as Rows

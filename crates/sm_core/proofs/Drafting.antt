@@ -4,7 +4,7 @@ use Rattle.sm_history.specs.declared.event.Event.{Event}
 use Rattle.sm_history.specs.declared.outcome.Outcome.{Outcome}
 use Rattle.sm_history.specs.declared.effect.Effect.{Effect}
 use Rattle.sm_history.specs.Effects.{Effects}
-use Rattle.sm_kinds.specs.declared.number.Node.{Node}
+use Rattle.sm_values.specs.declared.number.Node.{Node}
 use Rattle.sm_history.specs.declared.event.Event.TheVariants.{Release, Unwatch}
 use Rattle.sm_history.specs.declared.outcome.Outcome.TheVariants.{Released}
 use Rattle.sm_history.specs.declared.effect.Effect.TheVariants.{Releases, Unwatches}

@@ -7,10 +7,10 @@ use Rattle.std.specs.Prelude.{nat_lt, nat_eq, unwrap_or}
 use Rattle.std.specs.List.{list_any}
 use Rattle.std.proofs.lemmas.Bool.Decides.{nat_tests}
 use Rattle.std.proofs.lemmas.Bool.{true≢false, and_parts}
-use Rattle.sm_kinds.specs.declared.number.Node.{Node}
-use Rattle.sm_kinds.specs.declared.identity.Identity.{Identity}
-use Rattle.sm_kinds.specs.declared.perms.Perms.{Perms}
-use Rattle.sm_kinds.specs.declared.class.Class.TheVariants.{Binder, ServiceManager}
+use Rattle.sm_values.specs.declared.number.Node.{Node}
+use Rattle.sm_values.specs.declared.identity.Identity.{Identity}
+use Rattle.sm_values.specs.declared.perms.Perms.{Perms}
+use Rattle.sm_values.specs.declared.class.Class.TheVariants.{Binder, ServiceManager}
 use Rattle.sm_policy.specs.Policy.{Policy, label_of}
 use Rattle.sm_history.specs.declared.delivery.Delivery.{Delivery}
 use Rattle.sm_history.specs.declared.delivery.Given.{Given}

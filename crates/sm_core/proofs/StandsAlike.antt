@@ -3,7 +3,7 @@ use Rattle.std.proofs.Common.{Some, ◌-◌, ◌≡◌, ℕ, ◌+◌, ◌<◌, B
 use Rattle.std.proofs.Common.{map, if◌then◌else◌, arith}
 use Rattle.std.specs.Prelude.{nat_lt, filter, bytes_eq, reverse, filter_map, count_by}
 use Rattle.std.proofs.lemmas.Bool.Decides.{nat_tests}
-use Rattle.sm_kinds.specs.declared.identity.Identity.{Identity}
+use Rattle.sm_values.specs.declared.identity.Identity.{Identity}
 use Rattle.sm_policy.specs.Policy.{Policy}
 use Rattle.sm_history.specs.declared.effect.Watch.{Watch}
 use Rattle.sm_history.specs.Agreeing.{Agree}

@@ -1,6 +1,6 @@
 -- A call, judged part by part.
 use Rattle.std.specs.Prelude.{ℕ, ◌≡◌, ◌&&◌, List, [], ◌∷◌, ◌++◌, Option, is_some}
-use Rattle.sm_kinds.specs.declared.number.Node.{Node}
+use Rattle.sm_values.specs.declared.number.Node.{Node}
 use Rattle.sm_history.specs.declared.delivery.Delivery.{Delivery}
 use Rattle.sm_history.specs.declared.delivery.Message.TheVariants.{Called}
 use Rattle.sm_history.specs.declared.effect.Effect.{Effect, TheVariants.Gives, TheVariants.Delivers}

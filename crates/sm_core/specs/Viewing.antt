@@ -14,7 +14,7 @@ use Rattle.sm_history.specs.Openings.{is_same}
 use Rattle.sm_history.specs.declared.turn.TurnRow.{TurnRow}
 use Rattle.sm_history.specs.Lawful.{IsLawful, FitsPlaces, HasSoundPolicy}
 use Rattle.sm_history.specs.Verdict.{verdict}
-use Rattle.sm_kinds.specs.declared.limits.TheConstants.{MOST_PLACES}
+use Rattle.sm_values.specs.declared.limits.TheConstants.{MOST_PLACES}
 use Rattle.sm_names.specs.Rows.{TracksRows}
 use Rattle.sm_core.specs.declared.turn_counts.TurnCounts.{TurnCounts}
 use Rattle.sm_core.specs.declared.turns.Turns.{Turns}

@@ -1,7 +1,7 @@
 //! Access checks: each check of an allow rule, as in AOSP's `Access.cpp`. All rule checks go through these functions.
 
 ghost use Rattle.std.specs.Prelude.{◌≡◌, ◌⊎◌, None, Some, option_map, IfOk, OnOk};
-ghost use Rattle.sm_kinds.specs.Contexts.{type_of};
+ghost use Rattle.sm_values.specs.Contexts.{type_of};
 ghost use Rattle.sm_policy.specs.Policy.{allowed, decision, type_index};
 ghost use Rattle.sm_history.specs.Checks.{rule_denial};
 ghost use Rattle.sm_history.specs.declared.refusal.Refusal.TheVariants.{Denied};
@@ -13,8 +13,8 @@ use crate::principals::Principals;
 use crate::process::Process;
 use crate::refusing::Checked;
 use sm_history::{Denial, Record, Refusal, Reply, Shared};
-use sm_kinds::{Class, Context, Identity, Name, Perms};
 use sm_policy::Decision;
+use sm_values::{Class, Context, Identity, Name, Perms};
 use std::alloc::{AllocError, Global};
 use std::marker::Model;
 

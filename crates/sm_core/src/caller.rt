@@ -1,7 +1,7 @@
 //! Actors that may act.
 
 use crate::client::LiveClient;
-use sm_kinds::AdminId;
+use sm_values::AdminId;
 
 /// An actor that may act. A client comes with its row.
 #[derive(Clone, Copy)]

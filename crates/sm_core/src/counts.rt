@@ -9,7 +9,7 @@ ghost use Rattle.sm_core.specs.Stands.{fits_among};
 
 use sm_grants::Grants;
 use sm_history::{Effect, GREATEST};
-use sm_kinds::Node;
+use sm_values::Node;
 
 /// Returns whether an effect grants an object to a client.
 fn is_grant_of(client: u32, node: Node, effect: &Effect) -> bool

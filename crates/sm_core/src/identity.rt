@@ -3,12 +3,12 @@
 ghost use Rattle.std.specs.Prelude.{◌≡◌, IfOk};
 ghost use Rattle.sm_core.specs.Opening.{the_manager};
 
-use sm_kinds::{Context, ContextError, Identity};
+use sm_values::{Context, ContextError, Identity};
 use std::alloc::{AllocError, Global};
 
 /// Returns the identity under which a script and a server open their manager: process 1 with the uid of the system,
 /// 1000, in the domain `servicemanager` (AOSP: `system/sepolicy/private/servicemanager.te`).
-#[tactic(auto, unfolding(sm_kinds::specs::Contexts::is_context))]
+#[tactic(auto, unfolding(sm_values::specs::Contexts::is_context))]
 pub fn manager_identity(alloc: Global) -> Result<Identity, AllocError>
     ensures { IfOk result (λ who. who ≡ the_manager) }
 {

@@ -19,7 +19,7 @@ mod unregistering;
 mod watching;
 
 ghost use Rattle.std.specs.Prelude.{◌≡◌, ◌≤◌, true, false, MatchOption};
-ghost use Rattle.sm_kinds.specs.declared.limits.TheConstants.{MOST_PLACES};
+ghost use Rattle.sm_values.specs.declared.limits.TheConstants.{MOST_PLACES};
 ghost use Rattle.sm_history.specs.Clients.{is_live};
 ghost use Rattle.sm_history.specs.Histories.{turn_of};
 ghost use Rattle.sm_history.specs.Holdings.{resolve_at};
@@ -32,7 +32,7 @@ use crate::journal::Journal;
 use crate::state::State;
 use crate::turns::Turns;
 use sm_history::By;
-use sm_kinds::{Node, ObjRef, drop_fields};
+use sm_values::{Node, ObjRef, drop_fields};
 use std::alloc::Global;
 use std::marker::Model;
 

@@ -19,8 +19,8 @@ use crate::caller::Caller;
 use crate::client::{LiveClient, copies_of, drop_client, first_row, renumber};
 use crate::process::Process;
 use sm_history::{By, Effect};
-use sm_kinds::{Identity, drop_fields};
 use sm_policy::Prepared;
+use sm_values::{Identity, drop_fields};
 use std::alloc::{AllocError, Global};
 
 /// The manager's process and those of the live clients, under the policy in force. A manager and its views keep these.

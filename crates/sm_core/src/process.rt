@@ -3,8 +3,8 @@
 ghost use Rattle.std.specs.Prelude.{◌≡◌};
 ghost use Rattle.sm_core.specs.Tables.{process_under};
 
-use sm_kinds::Identity;
 use sm_policy::Prepared;
+use sm_values::Identity;
 
 /// A process under a policy: its identity, and the number of its type there (`Prepared::type_index`), by which rules
 /// are looked up. `None` if the policy doesn't declare its type.

@@ -18,7 +18,7 @@ use crate::turn_counts::{TurnCounts, is_same};
 use crate::turns::Turns;
 use crate::view_tables::{ViewTables, next_tables};
 use sm_history::{By, Effect, Entry, Query, Record, Reply, TurnRow};
-use sm_kinds::drop_fields;
+use sm_values::drop_fields;
 use std::alloc::{AllocError, Global};
 use std::marker::Model;
 use std::snapshot::Snapshot;

@@ -15,8 +15,8 @@ use Rattle.left_right.proofs.reader.Reader.TheSendSync as ReaderCrosses
 use Rattle.left_right.proofs.writer.Writer.TheSendSync as WriterCrosses
 use Rattle.left_right.specs.contracts.reader.Reader as Reader
 use Rattle.left_right.specs.contracts.writer.Writer as Writer
-use Rattle.sm_kinds.specs.contracts.number.AdminId as AdminId
-use Rattle.sm_kinds.specs.contracts.number.ClientId as ClientId
+use Rattle.sm_values.specs.contracts.number.AdminId as AdminId
+use Rattle.sm_values.specs.contracts.number.ClientId as ClientId
 use Rattle.sm_history.specs.contracts.by.By as By
 use Rattle.sm_core.specs.contracts.view.View as View
 use Rattle.sm_core.proofs.Crossing as view

@@ -6,7 +6,7 @@ use lib.ListN.{get_elem?}
 use Rattle.crossbeam_utils.specs.Register.{Admits, TurnsAt}
 use Rattle.atomic_table.proofs.Lists.{at_set, at_snoc}
 use Rattle.sm_history.specs.Books.{Book}
-use Rattle.sm_kinds.specs.declared.identity.Identity.{Identity}
+use Rattle.sm_values.specs.declared.identity.Identity.{Identity}
 use Rattle.sm_history.specs.Histories.{History, entered, turn_of}
 use Rattle.sm_history.specs.Records.{records}
 use Rattle.sm_history.specs.Segments.{sealed}

@@ -1,6 +1,6 @@
 -- How contracts see the manager that a door's lock guards, and one step of it.
 use Rattle.std.specs.Prelude.{◌≡◌, List}
-use Rattle.sm_kinds.specs.declared.identity.Identity.{Identity}
+use Rattle.sm_values.specs.declared.identity.Identity.{Identity}
 use Rattle.sm_core.specs.Managed.{ring_after}
 use Rattle.sm_history.specs.Books.{Book}
 use Rattle.sm_history.specs.Histories.{turn_of}

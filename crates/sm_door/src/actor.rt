@@ -13,7 +13,7 @@ use crate::locked_manager::LockedManager;
 use crate::published::{Sees, ViewReader};
 use crate::registry::Naming;
 use sm_history::{By, Query, Record, Refusal, Reply};
-use sm_kinds::drop_fields;
+use sm_values::drop_fields;
 use std::alloc::Global;
 use std::marker::Model;
 use std::sync::Wait;

@@ -6,7 +6,7 @@ ghost use Rattle.sm_history.specs.BookOrder.{Begins, IsLawfulBook};
 
 use crate::actor::Actor;
 use crate::registry::Naming;
-use sm_kinds::{AdminId, drop_fields};
+use sm_values::{AdminId, drop_fields};
 use std::marker::Model;
 
 /// An administrator's token. It can't be copied, and serves the door that made it.

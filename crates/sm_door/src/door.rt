@@ -1,8 +1,8 @@
 //! The door: a manager behind a lock.
 
 ghost use Rattle.std.specs.Prelude.{◌≡◌, ◌≤◌, ◌⊎◌, ◌&&◌, true, false, [], IfOk, IfErr, MatchResult};
-ghost use Rattle.sm_kinds.specs.Contexts.{type_of};
-ghost use Rattle.sm_kinds.specs.declared.class.Class.TheVariants.{Binder};
+ghost use Rattle.sm_values.specs.Contexts.{type_of};
+ghost use Rattle.sm_values.specs.declared.class.Class.TheVariants.{Binder};
 ghost use Rattle.sm_policy.specs.Policy.{allowed};
 ghost use Rattle.sm_history.specs.declared.event.Event.TheVariants.{Die, Reload};
 ghost use Rattle.sm_history.specs.declared.outcome.Outcome.TheVariants.{Died, Reloaded};
@@ -41,8 +41,8 @@ use sm_history::{
     Event, Failure, Gate, MOST_CLIENTS, Query, Record, Refusal, Reply, Segment, died, installed,
     is_death,
 };
-use sm_kinds::{Class, Identity, Name, Perms, Places};
 use sm_policy::Prepared;
+use sm_values::{Class, Identity, Name, Perms, Places};
 use std::alloc::Global;
 use std::sync::{Arc, Mutex, MutexGuard, Wait};
 

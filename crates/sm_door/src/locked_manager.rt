@@ -27,10 +27,8 @@ use crate::session::Session;
 use crate::shared_view::SharedView;
 use left_right::Absorb;
 use sm_core::{Manager, Ready, ReadySeal, View};
-use sm_history::{
-    By, Effect, Event, Failure, Gate, Record, Refusal, Reply, Segment, connected, moves,
-};
-use sm_kinds::Identity;
+use sm_history::{By, Event, Failure, Gate, Record, Refusal, Reply, Segment, connected, moves};
+use sm_values::Identity;
 use std::alloc::{AllocError, Global};
 use std::marker::Model;
 use std::sync::{Arc, Wait};
@@ -74,20 +72,6 @@ fn show_ready<J: Naming, R: Wait>(
 {
     let view = manager.view_after(ready, &publisher.shared_view().view)?;
     publisher.publish(rt, view)
-}
-
-/// Tells the gate which clients these effects of a published change deliver to.
-#[inline(always)]
-fn tell_deliveries<G: Gate>(gate: &G, effects: &[Effect]) {
-    for effect in effects {
-        if let Effect::Delivers {
-            client,
-            delivery: _,
-        } = effect
-        {
-            gate.deliver(*client);
-        }
-    }
 }
 
 /// Publishes what a seal leaves. On an error readers find what they found.
@@ -248,7 +232,7 @@ impl<J: Naming> LockedManager<J> {
         };
         match show_ready(rt, &self.manager, &mut self.publisher, &ready) {
             Ok(()) => {
-                tell_deliveries(gate, self.manager.drafted());
+                gate.changed(self.manager.drafted());
                 self.manager.commit(ready)
             }
             Err(_) => {

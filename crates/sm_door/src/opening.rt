@@ -17,7 +17,7 @@ use crate::seat::Seat;
 use crate::shared_view::SharedView;
 use sm_core::Manager;
 use sm_history::{By, Refusal};
-use sm_kinds::AdminId;
+use sm_values::AdminId;
 use std::alloc::{AllocError, Global};
 use std::sync::Arc;
 

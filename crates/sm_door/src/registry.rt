@@ -5,7 +5,7 @@ ghost use Rattle.sm_door.specs.Registries.{head_of};
 
 use crate::registry_rule::{Add, Asks, Law, Nothing, Registered, Shows};
 use logbook::{Offer, Seen, Start, Word};
-use sm_kinds::drop_fields;
+use sm_values::drop_fields;
 use std::marker::{Brand, Model, PhantomData};
 use std::sync::Wait;
 

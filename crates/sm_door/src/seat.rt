@@ -9,7 +9,7 @@ use crate::actor::Actor;
 use crate::registry::Naming;
 use crate::session::Session;
 use sm_history::By;
-use sm_kinds::ClientId;
+use sm_values::ClientId;
 use std::marker::Model;
 
 /// A free seat for a client. It can't be copied, and serves the door that made it. Contracts see it as a token of the

@@ -1,7 +1,7 @@
 //! A client's slot at the door, with or without a client.
 
 ghost use Rattle.std.specs.Prelude.{◌≡◌, MatchResult};
-ghost use Rattle.sm_kinds.specs.declared.number.ClientId.{ClientId};
+ghost use Rattle.sm_values.specs.declared.number.ClientId.{ClientId};
 ghost use Rattle.sm_history.specs.declared.by.By.TheVariants.{Manager, Client};
 
 use crate::registry::Naming;
@@ -23,7 +23,7 @@ impl<J: Naming> Drop for SeatOrSession<J> {
 
 impl<J: Naming> Model for SeatOrSession<J> {
     ghost use Rattle.std.specs.Prelude.{◌≡◌, MatchResult};
-    ghost use Rattle.sm_kinds.specs.declared.number.ClientId.{ClientId};
+    ghost use Rattle.sm_values.specs.declared.number.ClientId.{ClientId};
     ghost use Rattle.sm_history.specs.declared.by.By.TheVariants.{Manager, Client};
     ghost use Rattle.sm_history.specs.Tokens.{Knows};
     ghost use Rattle.sm_door.specs.SeatsOrSessions.{sits};

@@ -7,7 +7,7 @@ ghost use Rattle.sm_history.specs.Tokens.{token};
 use crate::actor::Actor;
 use crate::registry::Naming;
 use crate::seat::Seat;
-use sm_kinds::{ClientId, drop_fields};
+use sm_values::{ClientId, drop_fields};
 use std::marker::Model;
 
 /// A connected client's token. It can't be copied, and serves the door that made it. A session that is dropped without

@@ -10,7 +10,7 @@ use crate::published::ShowsView;
 use crate::registry::{HistoryId, Naming, Registry};
 use sm_core::View;
 use sm_history::{By, Failure, Query, Record, Refusal, Reply};
-use sm_kinds::drop_fields;
+use sm_values::drop_fields;
 use std::alloc::{AllocError, Global};
 use std::marker::Model;
 use std::sync::{Arc, Wait};

@@ -3,7 +3,7 @@
 ghost use Rattle.std.specs.Prelude.{◌≡◌, []};
 ghost use Rattle.sm_engine.specs.Buffers.{IsIdle};
 
-use sm_kinds::drop_fields;
+use sm_values::drop_fields;
 use sm_wire::Item;
 use std::alloc::Global;
 

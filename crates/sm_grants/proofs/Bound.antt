@@ -4,7 +4,7 @@ use Rattle.std.proofs.Common.{set, Option, Some, None, if◌then◌else◌, refl
 use Rattle.std.specs.Prelude.{max, min, nat_le}
 use Rattle.std.specs.List.{insert, remove}
 use Rattle.std.proofs.lemmas.Bool.{cases_lt}
-use Rattle.sm_kinds.specs.declared.number.Node.{Node}
+use Rattle.sm_values.specs.declared.number.Node.{Node}
 use Rattle.sm_history.specs.Effects.{Effects}
 use Rattle.sm_history.specs.Holdings.{refs_at, number_at}
 use Rattle.sm_history.specs.declared.replay.client_row.Held.{Held}

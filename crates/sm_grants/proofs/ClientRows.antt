@@ -6,7 +6,7 @@ use Rattle.std.specs.Prelude.{not, ◌≤◌}
 use Rattle.std.specs.List.{insert, list_any, remove}
 use Rattle.std.proofs.lemmas.Bool.{true≢false, or_from, or_parts}
 use Rattle.std.proofs.lemmas.Bool.Decides.{nat_tests}
-use Rattle.sm_kinds.specs.declared.number.Node.{Node}
+use Rattle.sm_values.specs.declared.number.Node.{Node}
 use Rattle.sm_history.specs.Effects.{Effects, same_node}
 use Rattle.sm_history.specs.declared.effect.Effect.TheVariants.{Gives, Releases, Dies}
 use Rattle.sm_history.specs.Clients.{is_live, live_clients}

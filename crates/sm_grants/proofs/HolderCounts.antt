@@ -9,7 +9,7 @@ use Rattle.std.proofs.lemmas.Cmp.{nat_eq_equiv}
 use Rattle.std.proofs.lemmas.List.Sums.{sum_by-cons, length-filter}
 use Rattle.std.proofs.lemmas.Map.Made.{length-from_same_keys}
 use Rattle.std.proofs.lemmas.Map.Views.{any-filter_same}
-use Rattle.sm_kinds.specs.declared.number.Node.{Node}
+use Rattle.sm_values.specs.declared.number.Node.{Node}
 use Rattle.sm_history.specs.Effects.{Effects}
 use Rattle.sm_history.specs.Clients.{is_live, live_clients}
 use Rattle.sm_history.specs.Holdings.{is_held, is_in_use}

@@ -1,7 +1,7 @@
 -- Effects of which the handles do not hear.
 use Rattle.std.proofs.Common.{◌≡◌, ℕ, Bool, true, false, List, ◌∷◌, refl, sym, subst}
 use Rattle.std.proofs.lemmas.Bool.{true≢false}
-use Rattle.sm_kinds.specs.declared.identity.Identity.{Identity}
+use Rattle.sm_values.specs.declared.identity.Identity.{Identity}
 use Rattle.sm_history.specs.Effects.{Effects}
 use Rattle.sm_history.specs.declared.effect.Effect.{Effect}
 use Rattle.sm_history.specs.declared.effect.Effect.TheVariants.{Connects, Dies, Gives, Releases}

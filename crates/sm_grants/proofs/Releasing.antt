@@ -1,6 +1,6 @@
 -- A release of an object, by its slot.
 use Rattle.std.proofs.Common.{◌≡◌, ℕ, true, false, List, ◌∷◌, Option, None, sym, ap, subst}
-use Rattle.sm_kinds.specs.declared.number.Node.{Node}
+use Rattle.sm_values.specs.declared.number.Node.{Node}
 use Rattle.sm_history.specs.Effects.{Effects}
 use Rattle.sm_history.specs.declared.effect.Effect.TheVariants.{Releases}
 use Rattle.sm_history.specs.Holdings.{refs_at, number_at, is_held}

@@ -6,7 +6,7 @@ use Rattle.std.specs.List.{list_any, find, range_with_len}
 use Rattle.std.proofs.lemmas.Bool.{true≢false, cases_lt}
 use Rattle.std.proofs.lemmas.Bool.Decides.{nat_tests}
 use Rattle.std.proofs.lemmas.List.Sums.{sum_by-cons}
-use Rattle.sm_kinds.specs.declared.number.Node.{Node}
+use Rattle.sm_values.specs.declared.number.Node.{Node}
 use Rattle.sm_history.specs.Effects.{Effects, same_node}
 use Rattle.sm_history.specs.Holdings.{refs_at, number_at, node_at, is_held, held_nodes, free_number, given_nodes}
 use Rattle.sm_history.specs.Sound.{HasOneEach}

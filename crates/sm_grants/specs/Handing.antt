@@ -1,7 +1,7 @@
 -- The references of a call as its receiver gets them, from the objects that they name.
 use Rattle.std.specs.Prelude.{ℕ, ◌≡◌, true, false, ◌==◌, List, [], ◌∷◌, Option, Some, None, is_some, if◌then◌else◌}
-use Rattle.sm_kinds.specs.declared.number.Node.{Node}
-use Rattle.sm_kinds.specs.declared.number.ObjRef.{ObjRef}
+use Rattle.sm_values.specs.declared.number.Node.{Node}
+use Rattle.sm_values.specs.declared.number.ObjRef.{ObjRef}
 use Rattle.sm_history.specs.declared.delivery.Given.{Given, TheVariants.Handle, TheVariants.Own, TheVariants.Null}
 use Rattle.sm_history.specs.Effects.{Effects}
 use Rattle.sm_history.specs.Holdings.{resolve_at}

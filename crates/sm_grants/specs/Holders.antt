@@ -1,6 +1,6 @@
 -- The number of clients that hold an object.
 use Rattle.std.specs.Prelude.{ℕ, ◌&&◌, not, ◌==◌, count_by}
-use Rattle.sm_kinds.specs.declared.number.Node.{Node}
+use Rattle.sm_values.specs.declared.number.Node.{Node}
 use Rattle.sm_history.specs.Effects.{Effects}
 use Rattle.sm_history.specs.Clients.{live_clients}
 use Rattle.sm_history.specs.Holdings.{is_held}

@@ -1,6 +1,6 @@
 -- The handles of all clients.
 use Rattle.std.specs.Prelude.{ℕ, ◌-◌, ◌≡◌, ◌<◌, ◌^◌, ◌==◌, List, [], ◌∷◌, Option, Some, None, if◌then◌else◌, map}
-use Rattle.sm_kinds.specs.declared.number.Node.{Node}
+use Rattle.sm_values.specs.declared.number.Node.{Node}
 use Rattle.sm_history.specs.Effects.{Effects}
 use Rattle.sm_history.specs.Sound.{IsBalanced, IsOnce}
 use Rattle.sm_history.specs.Clients.{live_clients}

@@ -2,7 +2,7 @@
 use Rattle.std.specs.Prelude.{ℕ, ◌+◌, ◌-◌, ◌/◌, ◌≡◌, ◌≤◌, ◌<◌, Bool, true, ◌&&◌, ◌==◌, List, [], ◌∷◌, Option, Some}
 use Rattle.std.specs.Prelude.{None, is_some, length, count_by}
 use Rattle.std.specs.List.{list_any}
-use Rattle.sm_kinds.specs.declared.number.Node.{Node}
+use Rattle.sm_values.specs.declared.number.Node.{Node}
 use Rattle.sm_bits.specs.Bits.{has}
 use Rattle.sm_history.specs.Effects.{same_node}
 use Rattle.sm_history.specs.declared.limits.TheConstants.{MOST_HANDLES}

@@ -5,8 +5,8 @@ ghost use Rattle.std.specs.Prelude.{if◌then◌else◌};
 ghost use Rattle.std.specs.Prelude.{nat_lt, length, is_some, Some, OnOk, IsOk, IsSome, IfOk, IfNone, IfSome};
 ghost use Rattle.std.specs.Prelude.{MatchOption};
 ghost use Rattle.std.specs.List.{list_any};
-ghost use Rattle.sm_kinds.specs.declared.number.Node.{Node};
-ghost use Rattle.sm_kinds.specs.declared.limits.TheConstants.{MOST_REFS};
+ghost use Rattle.sm_values.specs.declared.number.Node.{Node};
+ghost use Rattle.sm_values.specs.declared.limits.TheConstants.{MOST_REFS};
 ghost use Rattle.sm_history.specs.Effects.{Effects, same_node};
 ghost use Rattle.sm_history.specs.declared.effect.Effect.TheVariants.{Gives, Releases, Dies};
 ghost use Rattle.sm_history.specs.Clients.{is_live};
@@ -24,7 +24,7 @@ use crate::place::node_index;
 use crate::rows::{ClientHandles, handles_of, holders_in, place_for};
 use arrayvec::ArrayVec;
 use sm_history::{Held, MOST_HANDLES, row_index};
-use sm_kinds::{ClientId, MOST_REFS, Node, ObjRef, drop_fields};
+use sm_values::{ClientId, MOST_REFS, Node, ObjRef, drop_fields};
 use std::alloc::{AllocError, Global};
 
 /// The handles of all clients: who holds which object, under which number, and how often.

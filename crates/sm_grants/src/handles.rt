@@ -1,6 +1,6 @@
 //! Handles of one client.
 
-use sm_kinds::drop_fields;
+use sm_values::drop_fields;
 use std::marker::Model;
 
 /// A client's handles: by number, by object, and the numbers in use.
@@ -48,7 +48,7 @@ ghost use Rattle.sm_grants.specs.Slots.{granted_slot, IsGranted, IsNumberFor};
 use crate::slots::{add_one, empty, fill, take_one};
 use crate::used_numbers::UsedNumbers;
 use sm_history::{Held, MOST_HANDLES};
-use sm_kinds::Node;
+use sm_values::Node;
 use std::alloc::{AllocError, Global};
 use std::collections::HashMap;
 

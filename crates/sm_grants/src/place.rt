@@ -3,7 +3,7 @@
 ghost use Rattle.std.specs.Prelude.{◌≡◌, position};
 ghost use Rattle.sm_history.specs.Effects.{same_node};
 
-use sm_kinds::Node;
+use sm_values::Node;
 
 /// Returns the index of an object in a list.
 pub fn node_index(nodes: &[Node], node: Node) -> Option<usize>

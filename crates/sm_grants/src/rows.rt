@@ -7,7 +7,7 @@ ghost use Rattle.sm_grants.specs.Once.{AreOnce};
 
 use crate::handles::Handles;
 use sm_history::{OfClient, row_index};
-use sm_kinds::Node;
+use sm_values::Node;
 
 /// A client and its handles. Rows are in the order of their clients.
 #[derive(Drop)]

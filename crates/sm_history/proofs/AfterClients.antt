@@ -6,7 +6,7 @@ use Rattle.std.specs.List.{list_any}
 use Rattle.std.proofs.lemmas.Bool.Decides.{nat_tests}
 use Rattle.std.proofs.lemmas.List.{reverse-append}
 use Rattle.std.proofs.lemmas.List.Elements.{filter-append}
-use Rattle.sm_kinds.specs.declared.identity.Identity.{Identity}
+use Rattle.sm_values.specs.declared.identity.Identity.{Identity}
 use Rattle.sm_history.specs.Effects.{Effect, Effects, Connects, Dies}
 use Rattle.sm_history.specs.Clients.{live_clients, is_live, is_connect_of, is_death_of, connected}
 use Rattle.sm_history.proofs.Fresh.{not_connected}

@@ -3,7 +3,7 @@ use Rattle.std.proofs.Common.{◌≡◌, ℕ, ◌<◌, Bool, true, false, ◌&&�
 use Rattle.std.proofs.Common.{if◌then◌else◌, arith}
 use Rattle.std.specs.Prelude.{not, bytes_eq}
 use Rattle.std.proofs.lemmas.Bool.Decides.{nat_tests}
-use Rattle.sm_kinds.specs.declared.identity.Identity.{Identity}
+use Rattle.sm_values.specs.declared.identity.Identity.{Identity}
 use Rattle.sm_history.specs.declared.service.Service.{Service}
 use Rattle.sm_history.specs.Effects.{Effects, Connects, Dies, Adds, Removes}
 use Rattle.sm_history.specs.Clients.{is_live, next_client}

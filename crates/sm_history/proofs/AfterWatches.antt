@@ -4,7 +4,7 @@ use Rattle.std.specs.Prelude.{filter, not}
 use Rattle.std.specs.List.{list_any}
 use Rattle.std.proofs.lemmas.List.Elements.{filter-append}
 use Rattle.std.proofs.lemmas.List.Folds.{list_any-append}
-use Rattle.sm_kinds.specs.declared.identity.Identity.{Identity}
+use Rattle.sm_values.specs.declared.identity.Identity.{Identity}
 use Rattle.sm_history.specs.Effects.{Effect, Effects, Watch, Connects, Dies, Watches, Unwatches}
 use Rattle.sm_history.specs.Clients.{is_live}
 use Rattle.sm_history.specs.Services.{watches_made, watches_at, same_watch, watched_by}

@@ -4,9 +4,9 @@ use Rattle.std.proofs.Common.{Option, Some, None}
 use Rattle.std.specs.Prelude.{not, is_some}
 use Rattle.std.specs.List.{list_any}
 use Rattle.std.proofs.lemmas.Bool.{true≢false}
-use Rattle.sm_kinds.specs.declared.number.Node.{Node}
-use Rattle.sm_kinds.specs.declared.number.ObjRef.{ObjRef}
-use Rattle.sm_kinds.specs.declared.number.ObjRef.TheVariants.{Own as OwnRef, Handle as HandleRef, Null as NullRef}
+use Rattle.sm_values.specs.declared.number.Node.{Node}
+use Rattle.sm_values.specs.declared.number.ObjRef.{ObjRef}
+use Rattle.sm_values.specs.declared.number.ObjRef.TheVariants.{Own as OwnRef, Handle as HandleRef, Null as NullRef}
 use Rattle.sm_policy.specs.Policy.{Policy}
 use Rattle.sm_history.specs.EarlyAnswers.{EarlyAnswer}
 use Rattle.sm_history.specs.declared.event.Event.{Event}

@@ -5,7 +5,7 @@ use Rattle.std.proofs.Common.{subst, if◌then◌else◌, arith}
 use Rattle.std.specs.Prelude.{not}
 use Rattle.std.specs.List.{list_all}
 use Rattle.std.proofs.lemmas.Bool.{true≢false, and_parts, not-true}
-use Rattle.sm_kinds.specs.declared.number.Node.{Node}
+use Rattle.sm_values.specs.declared.number.Node.{Node}
 use Rattle.sm_history.specs.declared.limits.TheConstants.{GREATEST}
 use Rattle.sm_history.specs.Effects.{Effect, Effects, Connects, Dies, Gives, Releases, Resumes, same_node}
 use Rattle.sm_history.specs.Clients.{is_live}

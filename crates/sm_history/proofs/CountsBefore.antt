@@ -1,7 +1,7 @@
 -- Where the counts of grants fit behind steps that give nothing back, they fit before them.
 use Rattle.std.proofs.Common.{ℕ, ◌≤◌, ◌∷◌, refl, List, arith}
-use Rattle.sm_kinds.specs.declared.number.Node.{Node}
-use Rattle.sm_kinds.specs.declared.number.ObjRef.{ObjRef}
+use Rattle.sm_values.specs.declared.number.Node.{Node}
+use Rattle.sm_values.specs.declared.number.ObjRef.{ObjRef}
 use Rattle.sm_history.specs.Effects.{Effects, Watch, Gives, Delivers}
 use Rattle.sm_history.specs.Holdings.{refs_at}
 use Rattle.sm_history.specs.declared.delivery.Delivery.{Delivery}

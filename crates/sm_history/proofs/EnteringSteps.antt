@@ -1,7 +1,7 @@
 -- What an accepted change does to tables, step by step.
 use Rattle.std.proofs.Common.{◌≡◌, ℕ, ◌+◌, true, false, ◌==◌, ◌∷◌, ap, sym, ◌∙◌, subst, Some, None, if◌then◌else◌}
 use Rattle.std.proofs.Common.{arith}
-use Rattle.sm_kinds.specs.declared.number.Node.{Node}
+use Rattle.sm_values.specs.declared.number.Node.{Node}
 use Rattle.sm_history.specs.declared.limits.TheConstants.{GREATEST}
 use Rattle.sm_history.specs.declared.delivery.Given.{Given}
 use Rattle.sm_history.specs.declared.delivery.Given.TheVariants.{Handle, Own}

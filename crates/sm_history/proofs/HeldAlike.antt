@@ -6,7 +6,7 @@ use Rattle.std.specs.Prelude.{filter, not, is_none, unwrap_or}
 use Rattle.std.specs.List.{list_any, find, range_with_len}
 use Rattle.std.proofs.lemmas.Bool.Decides.{nat_tests}
 use Rattle.std.proofs.lemmas.Bool.{true≢false}
-use Rattle.sm_kinds.specs.declared.number.Node.{Node}
+use Rattle.sm_values.specs.declared.number.Node.{Node}
 use Rattle.sm_history.specs.Effects.{Effects, same_node}
 use Rattle.sm_history.specs.Holdings.{is_held, held_nodes, given_nodes, number_at, node_at, free_number}
 use Rattle.sm_history.proofs.Balanced.{node_same, number_same}

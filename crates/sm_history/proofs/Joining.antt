@@ -1,7 +1,7 @@
 -- From the manager's step that lets a client in, or refuses it, to what a connect promises.
 use Rattle.std.proofs.Common.{◌≡◌, inl, inr, ⊎_elim, refl, sym, ap, ◌∙◌, subst, ℕ, arith}
-use Rattle.sm_kinds.specs.declared.identity.Identity.{Identity}
-use Rattle.sm_kinds.specs.declared.number.ClientId.{ClientId}
+use Rattle.sm_values.specs.declared.identity.Identity.{Identity}
+use Rattle.sm_values.specs.declared.number.ClientId.{ClientId}
 use Rattle.sm_history.specs.declared.by.By.{By}
 use Rattle.sm_history.specs.declared.by.By.TheVariants.{Manager, Client}
 use Rattle.sm_history.specs.declared.event.Event.TheVariants.{Connect}

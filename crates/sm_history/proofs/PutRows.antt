@@ -6,8 +6,8 @@ use Rattle.std.specs.List.{list_any, flat_map, sum_by, cons_option}
 use Rattle.std.proofs.lemmas.Bool.Decides.{nat_tests}
 use Rattle.std.proofs.lemmas.List.{reverse-append, append_assoc, append-nil}
 use Rattle.std.proofs.lemmas.List.Sums.{sum_by-cons}
-use Rattle.sm_kinds.specs.declared.number.Node.{Node}
-use Rattle.sm_kinds.specs.declared.identity.Identity.{Identity}
+use Rattle.sm_values.specs.declared.number.Node.{Node}
+use Rattle.sm_values.specs.declared.identity.Identity.{Identity}
 use Rattle.sm_history.specs.declared.delivery.Delivery.{Delivery}
 use Rattle.sm_history.specs.Effects.{Effect, Effects, Service, Watch, Opens, Sets, Adds, Gives, Watches}
 use Rattle.sm_history.specs.Effects.{Delivers, same_node}

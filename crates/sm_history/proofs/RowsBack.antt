@@ -8,7 +8,7 @@ use Rattle.std.proofs.lemmas.Bool.{true≢false, and_parts}
 use Rattle.std.proofs.lemmas.List.{reverse-reverse, append-nil}
 use Rattle.std.proofs.lemmas.List.Sums.{sum_by-cons, sum_by-append}
 use Rattle.std.proofs.lemmas.List.Elements.{filter_map-append, filter_agree}
-use Rattle.sm_kinds.specs.declared.number.Node.{Node}
+use Rattle.sm_values.specs.declared.number.Node.{Node}
 use Rattle.sm_history.specs.declared.delivery.Delivery.{Delivery}
 use Rattle.sm_history.specs.Effects.{Effects, Service, Watch, Opens, Sets, same_node}
 use Rattle.sm_history.specs.Clients.{policy_at, manager_at, is_live, live_clients, identity_at, connected}

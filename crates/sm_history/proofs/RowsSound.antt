@@ -3,8 +3,8 @@ use Rattle.std.proofs.Common.{◌≡◌, ℕ, ◌+◌, ◌≤◌, Bool, true, fa
 use Rattle.std.proofs.Common.{map, Option, Some, None, if◌then◌else◌, arith}
 use Rattle.std.specs.Prelude.{filter, filter_map, option_map, reverse}
 use Rattle.std.specs.List.{list_any, flat_map, range_with_len}
-use Rattle.sm_kinds.specs.declared.number.Node.{Node}
-use Rattle.sm_kinds.specs.declared.identity.Identity.{Identity}
+use Rattle.sm_values.specs.declared.number.Node.{Node}
+use Rattle.sm_values.specs.declared.identity.Identity.{Identity}
 use Rattle.sm_history.specs.Effects.{Effect, Effects, Service, Watch, Opens, Sets, Connects, Adds, Gives, Watches}
 use Rattle.sm_history.specs.Effects.{Delivers}
 use Rattle.sm_history.specs.Clients.{is_live, live_clients, next_client, connected}

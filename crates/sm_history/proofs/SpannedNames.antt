@@ -11,7 +11,7 @@ use Rattle.std.proofs.lemmas.Grind.{common_steps, flat_map-append}
 use Rattle.std.proofs.Math.Seq.{drop-append_seam}
 use Rattle.std.specs.List.{All, count_by, filter, flat_map, list_all}
 use Rattle.sm_history.specs.declared.name_list.Span.{Span}
-use Rattle.sm_kinds.specs.Names.{is_name_byte, is_valid_name}
+use Rattle.sm_values.specs.Names.{is_name_byte, is_valid_name}
 use Rattle.sm_history.specs.NameLists.{bytes_at, has_length, is_space, is_spaced_byte, spaced, IsWithin, AreKept}
 
 -- More bytes behind them don't change those of a span.

@@ -1,7 +1,7 @@
 -- What a client's Die and an administrator's Reload are answered.
 use Rattle.std.proofs.Common.{◌≡◌, ⊎_elim, sym, subst, ℕ}
-use Rattle.sm_kinds.specs.declared.number.AdminId.{AdminId}
-use Rattle.sm_kinds.specs.declared.number.ClientId.{ClientId}
+use Rattle.sm_values.specs.declared.number.AdminId.{AdminId}
+use Rattle.sm_values.specs.declared.number.ClientId.{ClientId}
 use Rattle.sm_policy.specs.Policy.{Policy}
 use Rattle.sm_history.specs.declared.by.By.TheVariants.{Client, Admin}
 use Rattle.sm_history.specs.declared.event.Event.{Event}

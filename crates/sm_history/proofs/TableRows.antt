@@ -5,7 +5,7 @@ use Rattle.std.specs.Prelude.{filter_map, option_map, is_some}
 use Rattle.std.specs.List.{list_any, flat_map, range_with_len, cons_option}
 use Rattle.std.proofs.lemmas.Bool.{or_parts}
 use Rattle.std.proofs.lemmas.List.{get_or_past}
-use Rattle.sm_kinds.specs.declared.number.Node.{Node}
+use Rattle.sm_values.specs.declared.number.Node.{Node}
 use Rattle.sm_history.specs.declared.service.Service.{Service}
 use Rattle.sm_history.specs.declared.replay.client_row.Held.{Held}
 use Rattle.sm_history.specs.declared.replay.client_row.ClientRow.{ClientRow}

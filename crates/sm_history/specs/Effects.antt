@@ -1,6 +1,6 @@
 -- The effects of accepted changes. Every table of the manager is a count, a filter or a search over them.
 use Rattle.std.specs.Prelude.{Bool, List, ◌&&◌, ◌==◌}
-use Rattle.sm_kinds.specs.declared.number.Node.{Node}
+use Rattle.sm_values.specs.declared.number.Node.{Node}
 pub use Rattle.sm_history.specs.declared.service.Service.{Service}
 pub use Rattle.sm_history.specs.declared.effect.Watch.{Watch}
 pub use Rattle.sm_history.specs.declared.effect.Effect.{Effect}

@@ -1,8 +1,8 @@
 -- The first condition that a request fails.
 use Rattle.std.specs.Prelude.{ℕ, List, Option}
-use Rattle.sm_kinds.specs.declared.class.Class.{Class}
-use Rattle.sm_kinds.specs.declared.perms.Perms.{Perms}
-use Rattle.sm_kinds.specs.declared.identity.Identity.{Identity}
+use Rattle.sm_values.specs.declared.class.Class.{Class}
+use Rattle.sm_values.specs.declared.perms.Perms.{Perms}
+use Rattle.sm_values.specs.declared.identity.Identity.{Identity}
 use Rattle.sm_history.specs.declared.denial.Denial.{Denial}
 use Rattle.sm_history.specs.EarlyAnswers.{EarlyAnswer}
 

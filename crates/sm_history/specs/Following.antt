@@ -1,5 +1,5 @@
 -- Which effects may come next, and sequences of effects.
-use Rattle.sm_kinds.specs.declared.number.Node.{Node}
+use Rattle.sm_values.specs.declared.number.Node.{Node}
 use Rattle.std.specs.Prelude.{ℕ, ◌≡◌, ◌+◌, true, false, ◌==◌, List, [], ◌∷◌, nat_lt, length}
 use Rattle.sm_history.specs.Effects.{Effect, Effects, Connects, Dies, Adds, Gives, Releases, Watches, Unwatches}
 use Rattle.sm_history.specs.Effects.{Delivers, Takes, Resumes}

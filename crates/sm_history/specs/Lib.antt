@@ -1,6 +1,6 @@
 pub use Rattle.sm_policy.specs.Policy
-pub use Rattle.sm_kinds.specs.Users
-pub use Rattle.sm_kinds.specs.Contexts
+pub use Rattle.sm_values.specs.Users
+pub use Rattle.sm_values.specs.Contexts
 pub mod Effects
 pub mod Clients
 pub mod Holdings

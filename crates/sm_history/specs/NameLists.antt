@@ -1,8 +1,8 @@
 -- How a list of names is kept.
 use Rattle.std.specs.Prelude.{◌≡◌, ℕ, ◌+◌, ◌≤◌, Bool, ◌&&◌, ◌||◌, nat_eq, nat_le, List, ◌∷◌, take, drop, length, map}
 use Rattle.std.specs.List.{All, flat_map, list_all}
-use Rattle.sm_kinds.specs.declared.limits.TheConstants.{MOST_NAME_BYTES}
-use Rattle.sm_kinds.specs.Names.{is_name_byte}
+use Rattle.sm_values.specs.declared.limits.TheConstants.{MOST_NAME_BYTES}
+use Rattle.sm_values.specs.Names.{is_name_byte}
 use Rattle.sm_history.specs.declared.name_list.Span.{Span}
 
 -- These are the bytes of a span.

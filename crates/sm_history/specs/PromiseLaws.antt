@@ -1,8 +1,8 @@
 -- Laws of books, of verdicts and of tokens. Each is the contract of a function of `promises.rt`.
 use Rattle.std.specs.Prelude.{true, false, ◌≡◌, ◌≢◌, ◌≤◌, ◌<◌, ℕ, ◌+◌}
-use Rattle.sm_kinds.specs.declared.identity.Identity.{Identity}
-use Rattle.sm_kinds.specs.declared.number.AdminId.{AdminId}
-use Rattle.sm_kinds.specs.declared.number.ClientId.{ClientId}
+use Rattle.sm_values.specs.declared.identity.Identity.{Identity}
+use Rattle.sm_values.specs.declared.number.AdminId.{AdminId}
+use Rattle.sm_values.specs.declared.number.ClientId.{ClientId}
 use Rattle.sm_policy.specs.Policy.{Policy}
 use Rattle.sm_history.specs.declared.by.By.{By, TheVariants.Manager, TheVariants.Client, TheVariants.Admin}
 use Rattle.sm_history.specs.declared.event.Event.{Event, TheVariants.Connect, TheVariants.Die, TheVariants.Reload}

@@ -1,6 +1,6 @@
 -- What each call promises of the token with which it is made.
 use Rattle.std.specs.Prelude.{true, false, ◌≡◌, ◌≢◌, ℕ, ◌+◌, ◌≤◌, ◌<◌, ◌⊎◌, List, [], All, length}
-use Rattle.sm_kinds.specs.declared.identity.Identity.{Identity}
+use Rattle.sm_values.specs.declared.identity.Identity.{Identity}
 use Rattle.sm_history.specs.declared.by.By.{By, TheVariants.Manager, TheVariants.Client}
 use Rattle.sm_history.specs.declared.event.Event.{Event, TheVariants.Connect}
 use Rattle.sm_history.specs.declared.outcome.Outcome.{Outcome, TheVariants.Connected}

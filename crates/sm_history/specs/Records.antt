@@ -1,12 +1,12 @@
 -- The audit records of denied access.
 use Rattle.std.specs.Prelude.{ℕ, true, false, ◌-◌, ◌≡◌, ◌≤◌, List, [], ◌∷◌, ◌++◌, ◌⊎◌, Option, Some, None, is_none}
 use Rattle.std.specs.Prelude.{drop, if◌then◌else◌}
-use Rattle.sm_kinds.specs.Users.{is_barred, is_isolated_user}
-use Rattle.sm_kinds.specs.Contexts.{type_of}
-use Rattle.sm_kinds.specs.declared.class.Class.{Class}
-use Rattle.sm_kinds.specs.declared.perms.Perms.{Perms}
-use Rattle.sm_kinds.specs.declared.identity.Identity.{Identity}
-use Rattle.sm_kinds.specs.declared.number.Node.{Node}
+use Rattle.sm_values.specs.Users.{is_barred, is_isolated_user}
+use Rattle.sm_values.specs.Contexts.{type_of}
+use Rattle.sm_values.specs.declared.class.Class.{Class}
+use Rattle.sm_values.specs.declared.perms.Perms.{Perms}
+use Rattle.sm_values.specs.declared.identity.Identity.{Identity}
+use Rattle.sm_values.specs.declared.number.Node.{Node}
 use Rattle.sm_policy.specs.Policy.{Policy, written, allowed, audits}
 use Rattle.sm_history.specs.declared.by.By.{By}
 use Rattle.sm_history.specs.declared.event.Event.{Event, TheVariants.Add, TheVariants.Watch as WatchName}

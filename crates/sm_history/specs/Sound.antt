@@ -3,7 +3,7 @@
 use Rattle.std.specs.Prelude.{ℕ, ◌≡◌, ◌≤◌, ◌<◌, Bool, true, false, ◌==◌, List, [], ◌∷◌, Some, is_some, count_by}
 use Rattle.std.specs.Prelude.{filter_map, length}
 use Rattle.std.specs.List.{list_any}
-use Rattle.sm_kinds.specs.declared.number.Node.{Node}
+use Rattle.sm_values.specs.declared.number.Node.{Node}
 use Rattle.sm_history.specs.declared.delivery.Delivery.{Delivery}
 use Rattle.sm_history.specs.Effects.{Effect, Effects, Service, Connects, Dies, Gives, Releases, Watches, Unwatches}
 use Rattle.sm_history.specs.Effects.{Delivers, Takes}

@@ -4,8 +4,8 @@ use Rattle.std.specs.Prelude.{◌<◌, ◌-◌, false, min, nat_le, if◌then◌
 use Rattle.std.specs.Prelude.{slice_index_or, slice_set}
 use Rattle.std.specs.List.{find, flat_map, range_with_len}
 use Rattle.std.proofs.Common.{get_or}
-use Rattle.sm_kinds.specs.declared.identity.Identity.{Identity}
-use Rattle.sm_kinds.specs.declared.number.Node.{Node}
+use Rattle.sm_values.specs.declared.identity.Identity.{Identity}
+use Rattle.sm_values.specs.declared.number.Node.{Node}
 use Rattle.sm_policy.specs.Policy.{Policy, no_policy}
 use Rattle.sm_history.specs.declared.service.Service.{Service}
 use Rattle.sm_history.specs.declared.replay.client_row.Held.{Held}

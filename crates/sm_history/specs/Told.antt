@@ -1,6 +1,6 @@
 -- The visible part of a reply.
 use Rattle.std.specs.Prelude.{Bool, true, false, ◌&&◌, ◌==◌, if◌then◌else◌}
-use Rattle.sm_kinds.specs.declared.class.Class.{Class, TheVariants.ServiceManager, TheVariants.Binder}
+use Rattle.sm_values.specs.declared.class.Class.{Class, TheVariants.ServiceManager, TheVariants.Binder}
 use Rattle.sm_history.specs.declared.denial.Denial.{Denial, TheVariants.Rule, TheVariants.App, TheVariants.Isolated}
 use Rattle.sm_history.specs.declared.event.Event.{Event, TheVariants.Get}
 use Rattle.sm_history.specs.declared.refusal.Refusal.{Refusal, TheVariants.Denied}

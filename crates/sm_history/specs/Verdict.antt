@@ -7,10 +7,10 @@
 use Rattle.std.specs.Prelude.{ℕ, ◌+◌, Bool, true, false, ◌&&◌, ◌||◌, not, ◌==◌, nat_lt, nat_le, List, [], ◌∷◌, ◌++◌}
 use Rattle.std.specs.Prelude.{Option, Some, None, is_some, length, count_by}
 use Rattle.std.specs.List.{list_any}
-use Rattle.sm_kinds.specs.declared.number.Node.{Node}
-use Rattle.sm_kinds.specs.declared.number.ObjRef.{ObjRef, TheVariants.Null as NullRef}
-use Rattle.sm_kinds.specs.Names.{is_valid_name}
-use Rattle.sm_kinds.specs.Users.{is_barred, is_isolated_user}
+use Rattle.sm_values.specs.declared.number.Node.{Node}
+use Rattle.sm_values.specs.declared.number.ObjRef.{ObjRef, TheVariants.Null as NullRef}
+use Rattle.sm_values.specs.Names.{is_valid_name}
+use Rattle.sm_values.specs.Users.{is_barred, is_isolated_user}
 use Rattle.sm_history.specs.FailedChecks.{FailedCheck}
 use Rattle.sm_history.specs.declared.by.By.{By, TheVariants.Manager, TheVariants.Client, TheVariants.Admin}
 use Rattle.sm_history.specs.declared.event.Event.{Event}

@@ -1,5 +1,7 @@
 //! Gates, which are called at points of sessions and changes.
 
+use crate::effect::Effect;
+
 /// Called at points of a session and of a change, so that a test can hold it there, and a server can let a `take` wait
 /// for a delivery. Lines are numbered from 1 in each session. What a gate does changes no answer.
 pub trait Gate {
@@ -15,8 +17,8 @@ pub trait Gate {
     /// The desk will be asked a `take` next, and the answers to all earlier lines were written.
     fn before_take(&self) {}
 
-    /// A change that delivers something to this client was published. The manager's lock is held.
-    fn deliver(&self, _client: u32) {}
+    /// A change with these effects was published. The manager's lock is held.
+    fn changed(&self, _effects: &[Effect]) {}
 }
 
 /// The gate of the program, which does nothing.

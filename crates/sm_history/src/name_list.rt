@@ -3,11 +3,11 @@
 ghost use Rattle.std.specs.Prelude.{◌≡◌, ◌<◌, ◌≤◌, ◌^◌, ◌⊎◌, ◌++◌, ◌∷◌, [], true, false, length};
 ghost use Rattle.std.specs.Prelude.{OnOk, OnErr, IfOk, IfSome, IfNone, slice_index_or};
 ghost use Rattle.std.specs.List.{flat_map, list_all};
-ghost use Rattle.sm_kinds.specs.Names.{is_valid_name};
+ghost use Rattle.sm_values.specs.Names.{is_valid_name};
 ghost use Rattle.sm_history.specs.NameLists.{is_length, spaced};
 
 use crate::name_bytes::{are_spaced_bytes, spaces_in};
-use sm_kinds::MOST_NAME_BYTES;
+use sm_values::MOST_NAME_BYTES;
 use std::alloc::{AllocError, Global};
 use std::marker::Model;
 

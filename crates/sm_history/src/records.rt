@@ -3,7 +3,7 @@
 ghost use Rattle.std.specs.Prelude.{◌≡◌};
 
 use crate::denial::Denial;
-use sm_kinds::{Context, Identity, Name, drop_fields};
+use sm_values::{Context, Identity, Name, drop_fields};
 use std::alloc::AllocError;
 
 /// A record of a check that no allow rule passed, or of a clause on the user number that refused a request, as

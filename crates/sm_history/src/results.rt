@@ -8,7 +8,7 @@ ghost use Rattle.sm_history.specs.PossibleReplies.{moves, ConnectReply, DeathRep
 ghost use Rattle.sm_history.specs.PossibleReplies.{OfConnect, OfDeath, OfInstall};
 
 use crate::{Event, Failure, Outcome, Refusal, Reply};
-use sm_kinds::ClientId;
+use sm_values::ClientId;
 
 /// Returns whether the actor's token is to see the history that answered: not if an allocation failed, which leaves the
 /// token as it is, and not after `NotYours`, which says nothing of a history.

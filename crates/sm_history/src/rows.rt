@@ -1,6 +1,6 @@
 //! What changes left, as plain rows.
 
-use sm_kinds::drop_fields;
+use sm_values::drop_fields;
 use std::marker::Model;
 
 /// Everything that a verdict reads of the changes so far: the manager and the policy in force, once it was opened, each
@@ -44,8 +44,8 @@ use crate::replay::named_row::NamedRow;
 use crate::replay::tables::Tables;
 use crate::replay::turning::Turning;
 use crate::turn::TurnRow;
-use sm_kinds::Identity;
 use sm_policy::Prepared;
+use sm_values::Identity;
 use std::alloc::{AllocError, Global};
 
 fn turns_of(alloc: Global, turns: &[TurnRow]) -> Result<Vec<TurnRow>, AllocError>

@@ -1,6 +1,6 @@
 //! Segments of a journal.
 
-use sm_kinds::drop_fields;
+use sm_values::drop_fields;
 use std::marker::Model;
 
 /// Journal entries in one block of memory, oldest first.

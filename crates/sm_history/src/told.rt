@@ -6,7 +6,7 @@ ghost use Rattle.sm_history.specs.Told.{is_hidden, is_hidden_denial};
 use crate::denial::Denial;
 use crate::refusal::Refusal;
 use crate::reply::Reply;
-use sm_kinds::{Class, Perms};
+use sm_values::{Class, Perms};
 
 /// Returns whether a Get is answered that nothing was found in place of this reply: `find` was denied, or the clause on
 /// isolated processes failed (`ServiceManager.cpp`, `tryGetService`). Replies to other events are never hidden.

@@ -1,7 +1,7 @@
 -- Effects that inboxes don't hear of.
 use Rattle.std.proofs.Common.{◌≡◌, ℕ, Bool, true, false, ◌∷◌, sym, ◌∙◌}
 use Rattle.std.proofs.lemmas.Bool.{true≢false}
-use Rattle.sm_kinds.specs.declared.identity.Identity.{Identity}
+use Rattle.sm_values.specs.declared.identity.Identity.{Identity}
 use Rattle.sm_history.specs.declared.effect.Effect.{Effect}
 use Rattle.sm_history.specs.declared.effect.Effect.TheVariants.{Connects, Dies, Delivers, Takes}
 use Rattle.sm_history.specs.Effects.{Effects}

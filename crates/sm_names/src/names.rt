@@ -16,7 +16,7 @@ use crate::services::Services;
 use crate::watch_list::WatchList;
 use crate::watch_order::{append_watch, remove_watch, remove_watches};
 use sm_history::{MOST_NAMES, MOST_WATCHES, NameList, Service, Watch, WatchPair, watches_of};
-use sm_kinds::{Name, drop_fields};
+use sm_values::{Name, drop_fields};
 use std::alloc::{AllocError, Global};
 
 /// The table of services under their names, and of watches: by name, and in `order` oldest first. A segment begins with

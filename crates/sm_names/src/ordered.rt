@@ -8,7 +8,7 @@ ghost use Rattle.sm_names.specs.Orders.{row_at, rows_at, times, IsOrder, renamed
 ghost use Rattle.sm_names.specs.Rows.{matching_names};
 
 use sm_history::{NameList, NamedRow};
-use sm_kinds::spells;
+use sm_values::spells;
 use std::alloc::{AllocError, Global};
 
 /// Returns the name of the row with an index, or no bytes if there is none.

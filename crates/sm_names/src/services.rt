@@ -11,7 +11,7 @@ ghost use Rattle.sm_names.specs.Rows.{TracksRows};
 use crate::hints::Hints;
 use crate::named_rows::NamedRows;
 use sm_history::{NameList, NamedRow, Service};
-use sm_kinds::Name;
+use sm_values::Name;
 use std::alloc::{AllocError, Global};
 
 /// The names that have a service, in rising byte order.

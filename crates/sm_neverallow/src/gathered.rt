@@ -9,9 +9,9 @@ ghost use Rattle.sm_neverallow.specs.Uniting.{FitsGathered, in_gathered};
 use crate::batch::{BATCH, Batch};
 use crate::perm_sets::perm_set;
 use sm_bits::{BitRow, empty_rows};
-use sm_kinds::Perms;
 use sm_rules::Kept;
 use sm_types::TypeCount;
+use sm_values::Perms;
 use std::alloc::{AllocError, Global};
 
 /// Rows without a target.

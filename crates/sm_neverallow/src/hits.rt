@@ -19,9 +19,9 @@ use crate::matrix::{GROUP, Matrix};
 use crate::perm_sets::perm_set;
 use crate::unions::Unions;
 use sm_bits::{BitRow, with_bit};
-use sm_kinds::Perms;
 use sm_rules::Kept;
 use sm_types::TypeCount;
+use sm_values::Perms;
 use std::alloc::{AllocError, Global};
 
 /// The number of rules with every source that cost as much as the unions of all groups.

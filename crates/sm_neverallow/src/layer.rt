@@ -7,9 +7,9 @@ ghost use Rattle.std.specs.Arc.{arc_value};
 
 use crate::matrix::Matrix;
 use sm_bits::BitRow;
-use sm_kinds::{Perms, drop_fields};
 use sm_rules::has_perm;
 use sm_types::TypeCount;
+use sm_values::{Perms, drop_fields};
 use std::alloc::{AllocError, Global};
 use std::marker::Model;
 use std::sync::Arc;

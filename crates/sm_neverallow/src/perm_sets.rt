@@ -7,8 +7,8 @@ ghost use Rattle.sm_neverallow.specs.Matrices.{perm_set, AreSetsOf};
 
 use bitflags::Flags;
 use sm_bits::BitRow;
-use sm_kinds::Perms;
 use sm_rules::Kept;
+use sm_values::Perms;
 use std::alloc::{AllocError, Global};
 
 /// The number of sets of permissions. The bits of each are a number below this one.

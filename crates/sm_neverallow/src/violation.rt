@@ -19,9 +19,9 @@ use crate::matrix::Matrix;
 use crate::perm_sets::{SET_COUNT, sets_of};
 use bitflags::Flags;
 use sm_bits::BitRow;
-use sm_kinds::{Class, Perms};
 use sm_rules::{Kept, PERM_COUNT, Rules, class_at, has_perm, perm_at};
 use sm_types::TypeCount;
+use sm_values::{Class, Perms};
 use std::alloc::{AllocError, Global};
 
 /// The first tuple that a neverallow rule forbids and an allow rule allows.

@@ -1,9 +1,9 @@
 -- A policy source has no more statements than bytes.
 use Rattle.std.proofs.Common.{◌≡◌, ℕ, zero, suc, ◌+◌, ◌≤◌, List, [], ◌∷◌, length, length-append, Option, Ok, arith}
 use Rattle.std.proofs.lemmas.Bool.Decides.{nat_tests}
-use Rattle.sm_kinds.specs.Reading.{◌>>=◌}
-use Rattle.sm_kinds.specs.declared.limits.TheConstants.{MOST_TEXT_BYTES}
-use Rattle.sm_kinds.proofs.Readers.{went_well}
+use Rattle.sm_values.specs.Reading.{◌>>=◌}
+use Rattle.sm_values.specs.declared.limits.TheConstants.{MOST_TEXT_BYTES}
+use Rattle.sm_values.proofs.Readers.{went_well}
 use Rattle.sm_ruletext.specs.declared.statement.What.{What}
 use Rattle.sm_ruletext.specs.declared.statement.Statement.{Statement}
 use Rattle.sm_ruletext.specs.declared.token.TokenKind.{TokenKind}

@@ -6,8 +6,8 @@ use Rattle.std.specs.List.{position_or_len}
 use Rattle.std.specs.Option.{option_or}
 use Rattle.std.proofs.lemmas.List.Folds.{find_at, find-append}
 use Rattle.std.proofs.lemmas.Slice.Eq.{bytes_eq-Decides}
-use Rattle.sm_kinds.specs.Contexts.{type_of}
-use Rattle.sm_kinds.proofs.Readers.{went_well}
+use Rattle.sm_values.specs.Contexts.{type_of}
+use Rattle.sm_values.proofs.Readers.{went_well}
 use Rattle.sm_ruletext.specs.declared.statement.Statement.{Statement}
 use Rattle.sm_types.specs.Denoting.{declares}
 use Rattle.sm_contexts.specs.Lines.{lines, first_word, after_word}

@@ -1,7 +1,7 @@
 -- The numbers of the types in the labels.
 use Rattle.std.specs.Prelude.{◌≡◌, ℕ, List, Option, Some, map, position}
 use Rattle.std.specs.Str.{bytes_eq}
-use Rattle.sm_kinds.specs.Contexts.{type_of}
+use Rattle.sm_values.specs.Contexts.{type_of}
 use Rattle.sm_types.specs.Names.{Name}
 use Rattle.sm_contexts.specs.Reading.{Entry}
 

@@ -1,9 +1,9 @@
 -- A policy: the statements of its policy source and the entries of its contexts file.
 use Rattle.std.specs.Prelude.{ℕ, Bool, not, ◌&&◌, ◌||◌, nat_lt, List, [], length, position, Option, is_some, unwrap_or}
 use Rattle.std.specs.Str.{bytes_eq}
-use Rattle.sm_kinds.specs.Permissions.{perm_of}
-use Rattle.sm_kinds.specs.declared.class.Class.{Class}
-use Rattle.sm_kinds.specs.declared.perms.Perms.{Perms}
+use Rattle.sm_values.specs.Permissions.{perm_of}
+use Rattle.sm_values.specs.declared.class.Class.{Class}
+use Rattle.sm_values.specs.declared.perms.Perms.{Perms}
 use Rattle.sm_ruletext.specs.declared.statement.Statement.{Statement}
 use Rattle.sm_types.specs.Names.{at}
 use Rattle.sm_types.specs.Denoting.{types, declares}

@@ -1,8 +1,8 @@
 -- The result of reading the two files of a policy: a policy, or the first refusal.
 use Rattle.std.specs.Prelude.{ℕ, ◌+◌, Bool, true, false, not, ◌&&◌, if◌then◌else◌, List, [], ◌∷◌, Option, Some, None}
 use Rattle.std.specs.Prelude.{Result, Ok, Err}
-use Rattle.sm_kinds.specs.Contexts.{type_of}
-use Rattle.sm_kinds.specs.Reading.{◌>>=◌}
+use Rattle.sm_values.specs.Contexts.{type_of}
+use Rattle.sm_values.specs.Reading.{◌>>=◌}
 use Rattle.sm_ruletext.specs.declared.fault.RuleTextFault.{RuleTextFault}
 use Rattle.sm_ruletext.specs.declared.fault.RuleTextFault.TheVariants as text
 use Rattle.sm_ruletext.specs.declared.statement.Statement.{Statement}

@@ -1,6 +1,6 @@
 -- The words of a refused policy.
 use Rattle.std.specs.Prelude.{ℕ, List, ◌++◌, codes}
-use Rattle.sm_kinds.specs.Messages.{access_words, numbered}
+use Rattle.sm_values.specs.Messages.{access_words, numbered}
 use Rattle.sm_ruletext.specs.declared.fault.RuleTextFault.{RuleTextFault}
 use Rattle.sm_ruletext.specs.declared.fault.RuleTextFault.TheVariants as text
 use Rattle.sm_types.specs.declared.fault.TypesFault.{TypesFault}

@@ -1,6 +1,6 @@
 -- Entries whose type the policy source doesn't declare.
 use Rattle.std.specs.Prelude.{ℕ, Bool, not, if◌then◌else◌, List, find, Option, Some, None, option_map}
-use Rattle.sm_kinds.specs.Contexts.{type_of}
+use Rattle.sm_values.specs.Contexts.{type_of}
 use Rattle.sm_ruletext.specs.declared.statement.Statement.{Statement}
 use Rattle.sm_types.specs.Denoting.{declares}
 use Rattle.sm_contexts.specs.Reading.{Entry}

@@ -1,7 +1,7 @@
 //! The sizes of a policy.
 
 ghost use Rattle.std.specs.Prelude.{◌≡◌, ◌≤◌, length};
-ghost use Rattle.sm_kinds.specs.declared.limits.TheConstants.{MOST_TEXT_BYTES};
+ghost use Rattle.sm_values.specs.declared.limits.TheConstants.{MOST_TEXT_BYTES};
 ghost use Rattle.sm_types.specs.Members.{IsOf};
 ghost use Rattle.sm_policy.specs.Counting as spec;
 ghost use Rattle.sm_policy.specs.Counting.{is_counted, rule_count};

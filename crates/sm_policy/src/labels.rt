@@ -1,7 +1,7 @@
 //! The labels of services, and the types in them.
 
 ghost use Rattle.std.specs.Prelude.{◌≡◌, ◌<◌, List, None, Some, IfOk, IfErr, OnOk, length, option_map, slice_get};
-ghost use Rattle.sm_kinds.specs.Reading.{Gives};
+ghost use Rattle.sm_values.specs.Reading.{Gives};
 ghost use Rattle.sm_ruletext.specs.declared.statement.Statement.{Statement as TheStatement};
 ghost use Rattle.sm_types.specs.Members.{IsOf};
 ghost use Rattle.sm_policy.specs.Breaking.{IfNeverallow};
@@ -13,8 +13,8 @@ ghost use Rattle.sm_policy.specs.Undeclared.{first_undeclared, undeclared_line};
 
 use crate::PolicyFault;
 use sm_contexts::Contexts;
-use sm_kinds::{Context, drop_fields};
 use sm_types::Types;
+use sm_values::{Context, drop_fields};
 use std::alloc::Global;
 
 /// The label of a name.

@@ -5,11 +5,11 @@ use crate::labels::{Labels, labels_of};
 use crate::preparing::{refuse_violation, rules_of};
 use crate::{Decision, Label, PolicyFault};
 use sm_contexts::Contexts;
-use sm_kinds::{Class, Context, Perms, drop_fields};
 use sm_neverallow::Matrices;
 use sm_rules::Rules;
 use sm_ruletext::Statement;
 use sm_types::Types;
+use sm_values::{Class, Context, Perms, drop_fields};
 use sm_vectors::Vectors;
 use std::alloc::{AllocError, Global};
 use std::marker::Model;
@@ -59,12 +59,12 @@ impl Drop for Prepared {
 
 impl Prepared {
     ghost use Rattle.std.specs.Prelude.{◌≡◌, ◌<◌, ◌≤◌, ◌⊎◌, ℕ, List, [], Some, IfOk, IfErr, length, true, false};
-    ghost use Rattle.sm_kinds.specs.Contexts.{type_of};
+    ghost use Rattle.sm_values.specs.Contexts.{type_of};
     ghost use Rattle.sm_policy.specs.Policy.{allowed, audits, decision, allowed_at, type_index, label_of, written_at};
     ghost use Rattle.sm_policy.specs.Policy.{IsConsistent, is_permissive};
     ghost use Rattle.sm_policy.specs.Breaking.{IfNeverallow, IsBrokenText};
     ghost use Rattle.sm_policy.specs.Counting.{counts_of};
-    ghost use Rattle.sm_kinds.specs.Reading.{Gives};
+    ghost use Rattle.sm_values.specs.Reading.{Gives};
     ghost use Rattle.sm_policy.specs.Preparing.{is_memory, prepared};
     ghost use Rattle.sm_policy.specs.Parts.{ArePartsOf};
     ghost use Rattle.sm_policy.specs.GrantedRow.{IsRow, granted};

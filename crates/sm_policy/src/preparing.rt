@@ -1,8 +1,8 @@
 //! Reads the two files of a policy.
 
 ghost use Rattle.std.specs.Prelude.{◌≡◌, ◌≤◌, List, IfOk, IfErr, OnOk, length};
-ghost use Rattle.sm_kinds.specs.Reading.{Gives};
-ghost use Rattle.sm_kinds.specs.declared.limits.TheConstants.{MOST_TEXT_BYTES};
+ghost use Rattle.sm_values.specs.Reading.{Gives};
+ghost use Rattle.sm_values.specs.declared.limits.TheConstants.{MOST_TEXT_BYTES};
 ghost use Rattle.sm_ruletext.specs.declared.statement.Statement.{Statement as TheStatement};
 ghost use Rattle.sm_types.specs.Members.{IsOf};
 ghost use Rattle.sm_types.specs.Names.{at};
@@ -15,11 +15,11 @@ ghost use Rattle.sm_policy.specs.Breaking.{IfNeverallow, IsBroken};
 ghost use Rattle.sm_neverallow.specs.Matrices.{AllCompiled};
 
 use crate::{PolicyFault, Violation};
-use sm_kinds::Name;
 use sm_neverallow::{Matrices, first_violation};
 use sm_rules::Rules;
 use sm_ruletext::Statement;
 use sm_types::Types;
+use sm_values::Name;
 use std::alloc::{AllocError, Global};
 
 /// Reads the statements of a policy source.

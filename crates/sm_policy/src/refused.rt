@@ -1,17 +1,17 @@
 //! The words of a refusal.
 
 ghost use Rattle.std.specs.Prelude.{◌≡◌, IfOk};
-ghost use Rattle.sm_kinds.specs.Messages.{numbered};
+ghost use Rattle.sm_values.specs.Messages.{numbered};
 ghost use Rattle.sm_policy.specs.Refused.{rules_words, broken_words, contexts_words, refused_words, text_words};
 ghost use Rattle.sm_policy.specs.Refused.{types_words, violation_words};
 ghost use Rattle.sm_contexts.specs.declared.fault.ContextsFault.TheVariants.{Conflict};
 
 use crate::{PolicyFault, Violation};
 use sm_contexts::ContextsFault;
-use sm_kinds::{push_access, push_numbered};
 use sm_rules::RulesFault;
 use sm_ruletext::RuleTextFault;
 use sm_types::TypesFault;
+use sm_values::{push_access, push_numbered};
 use std::alloc::{AllocError, Global};
 
 fn numbered(alloc: Global, words: &[u8], n: u32) -> Result<Vec<u8>, AllocError>

@@ -1,7 +1,7 @@
 //! Policies with their versions.
 
 use crate::Prepared;
-use sm_kinds::{Class, Context, Perms, drop_fields};
+use sm_values::{Class, Context, Perms, drop_fields};
 use std::marker::Model;
 
 /// A policy with its version: the number of the `Open` and `Reload` entries up to the one that put it into force.
@@ -26,7 +26,7 @@ impl Model for Snapshot {
 
 impl Snapshot {
     ghost use Rattle.std.specs.Prelude.{◌≡◌};
-    ghost use Rattle.sm_kinds.specs.Contexts.{type_of};
+    ghost use Rattle.sm_values.specs.Contexts.{type_of};
     ghost use Rattle.sm_policy.specs.Policy.{allowed, audits, allowed_at, type_index, label_of, written_at};
 
     /// Makes a policy with its version.

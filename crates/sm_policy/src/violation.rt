@@ -1,6 +1,6 @@
 //! A neverallow rule that an allow rule breaks.
 
-use sm_kinds::{Class, Name, Perms, drop_fields};
+use sm_values::{Class, Name, Perms, drop_fields};
 use thiserror::Error;
 
 /// The first thing that a neverallow rule forbids and an allow rule allows, with the names of its types.

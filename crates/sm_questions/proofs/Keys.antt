@@ -6,7 +6,7 @@ use Rattle.sm_types.specs.Names.{at}
 use Rattle.std.specs.List.{list_any}
 use Rattle.std.specs.Str.{bytes_eq}
 use Rattle.std.proofs.lemmas.Slice.Eq.{bytes_eq-Decides}
-use Rattle.sm_kinds.specs.Names.{contains}
+use Rattle.sm_values.specs.Names.{contains}
 use Rattle.sm_contexts.specs.Reading.{Entry, has_key}
 
 either_way : (a b : List ℕ) → bytes_eq a b ≡ bytes_eq b a

@@ -4,7 +4,7 @@ use Rattle.std.proofs.Common.{sym, ap, ◌∙◌, arith, length-append}
 use Rattle.std.specs.List.{prefix_len}
 use Rattle.std.proofs.lemmas.Bool.{cases_lt}
 use Rattle.std.proofs.lemmas.List.{get_or_append_left, get_or-append_right, drop-drop, drop_all}
-use Rattle.sm_kinds.specs.Lines.{is_in_line}
+use Rattle.sm_values.specs.Lines.{is_in_line}
 use Rattle.sm_contexts.specs.Lines.{lines}
 use Rattle.sm_contexts.proofs.Cuts.{first_line}
 

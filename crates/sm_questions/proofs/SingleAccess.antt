@@ -7,9 +7,9 @@ use Rattle.std.specs.Str.{bytes_eq}
 use Rattle.std.proofs.lemmas.Bool.{cases_eq, ne_eqb}
 use Rattle.std.proofs.lemmas.Slice.Eq.{bytes_eq-Decides}
 use Rattle.sm_bits.specs.Bits.{has_bit}
-use Rattle.sm_kinds.specs.declared.class.Class.{Class, TheVariants.ServiceManager, TheVariants.Binder}
-use Rattle.sm_kinds.specs.declared.perms.Perms.{Perms}
-use Rattle.sm_kinds.specs.Permissions.{bit, binder_word, perm_of, service_manager_word}
+use Rattle.sm_values.specs.declared.class.Class.{Class, TheVariants.ServiceManager, TheVariants.Binder}
+use Rattle.sm_values.specs.declared.perms.Perms.{Perms}
+use Rattle.sm_values.specs.Permissions.{bit, binder_word, perm_of, service_manager_word}
 use Rattle.sm_ruletext.specs.declared.rule.Rule.{Rule}
 use Rattle.sm_ruletext.specs.declared.statement.RuleKind.TheVariants.{Allow}
 use Rattle.sm_types.specs.Names.{Name}

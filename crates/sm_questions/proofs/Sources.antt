@@ -1,6 +1,6 @@
 -- The source of a policy.
 use Rattle.std.proofs.Common.{◌≡◌, ◌∙◌, ℕ, List, Ok, ap, refl}
-use Rattle.sm_kinds.proofs.Readers.{went_well}
+use Rattle.sm_values.proofs.Readers.{went_well}
 use Rattle.sm_ruletext.specs.Statements as source
 use Rattle.sm_ruletext.specs.declared.statement.Statement.{Statement}
 use Rattle.sm_types.specs.Declaring.{symbols_of}

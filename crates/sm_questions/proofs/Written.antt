@@ -1,7 +1,7 @@
 -- An access is written if its line is there.
 use Rattle.std.proofs.Common.{◌≡◌, ℕ, List, is_some, arith}
-use Rattle.sm_kinds.specs.declared.class.Class.{Class}
-use Rattle.sm_kinds.specs.declared.perms.Perms.{Perms}
+use Rattle.sm_values.specs.declared.class.Class.{Class}
+use Rattle.sm_values.specs.declared.perms.Perms.{Perms}
 use Rattle.sm_ruletext.specs.declared.statement.RuleKind.TheVariants.{Allow}
 use Rattle.sm_rules.specs.Access.{covers_as}
 use Rattle.sm_policy.specs.Policy.{Policy, written, written_at}

@@ -3,7 +3,7 @@ use Rattle.std.specs.Prelude.{ℕ, Bool, true, ◌&&◌, if◌then◌else◌, Li
 use Rattle.std.specs.List.{flat_map}
 use Rattle.std.specs.Str.{bytes_eq}
 use Rattle.sm_bits.specs.Bits.{has_bit}
-use Rattle.sm_kinds.specs.Messages.{access_words, numbered}
+use Rattle.sm_values.specs.Messages.{access_words, numbered}
 use Rattle.sm_types.specs.Denoting.{types}
 use Rattle.sm_rules.specs.Keeping.{class_at, perm_at}
 use Rattle.sm_policy.specs.Policy.{Policy, allowed, written_at}

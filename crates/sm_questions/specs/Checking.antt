@@ -1,6 +1,6 @@
 -- The verdict of `svcmgr check`.
 use Rattle.std.specs.Prelude.{ℕ, List, ◌++◌, Option, Some, None, Result, Ok, Err, codes}
-use Rattle.sm_kinds.specs.Messages.{numbered}
+use Rattle.sm_values.specs.Messages.{numbered}
 use Rattle.sm_policy.specs.declared.counts.Counts.{Counts}
 use Rattle.sm_policy.specs.declared.fault.PolicyFault.{PolicyFault}
 use Rattle.sm_policy.specs.Counting.{counts_of}

@@ -1,7 +1,7 @@
 -- What `svcmgr diff` writes.
 use Rattle.std.specs.Prelude.{ℕ, Bool, not, ◌&&◌, nat_lt, if◌then◌else◌, List, [], ◌∷◌, ◌++◌, length, codes}
 use Rattle.std.specs.List.{flat_map}
-use Rattle.sm_kinds.specs.Messages.{access_words}
+use Rattle.sm_values.specs.Messages.{access_words}
 use Rattle.sm_types.specs.Denoting.{types}
 use Rattle.sm_rules.specs.Keeping.{class_at, perm_at}
 use Rattle.sm_policy.specs.Policy.{Policy, allowed, is_permissive}

@@ -1,8 +1,8 @@
 -- What `svcmgr explain` writes.
 use Rattle.std.specs.Prelude.{ℕ, Bool, ◌||◌, if◌then◌else◌, List, [], ◌++◌, Option, Some, None, codes}
-use Rattle.sm_kinds.specs.declared.class.Class.{Class}
-use Rattle.sm_kinds.specs.declared.perms.Perms.{Perms}
-use Rattle.sm_kinds.specs.Messages.{numbered}
+use Rattle.sm_values.specs.declared.class.Class.{Class}
+use Rattle.sm_values.specs.declared.perms.Perms.{Perms}
+use Rattle.sm_values.specs.Messages.{numbered}
 use Rattle.sm_policy.specs.Policy.{Policy, written, written_at, is_permissive}
 
 -- The first line has the line of the rule that grants the access, if there is one.

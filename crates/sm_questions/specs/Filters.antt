@@ -1,11 +1,11 @@
 -- What `svcmgr access` is asked for.
 use Rattle.std.specs.Prelude.{ℕ, List, if◌then◌else◌, Option, Some, None, Result, Ok, Err}
 use Rattle.std.specs.Option.{option_or}
-use Rattle.sm_kinds.specs.declared.class.Class.{Class, TheVariants.ServiceManager, TheVariants.Binder}
-use Rattle.sm_kinds.specs.declared.perms.Perms.{Perms}
-use Rattle.sm_kinds.specs.Contexts.{type_of}
-use Rattle.sm_kinds.specs.Permissions.{bit, class_read, perm_read}
-use Rattle.sm_kinds.specs.Reading.{◌>>=◌}
+use Rattle.sm_values.specs.declared.class.Class.{Class, TheVariants.ServiceManager, TheVariants.Binder}
+use Rattle.sm_values.specs.declared.perms.Perms.{Perms}
+use Rattle.sm_values.specs.Contexts.{type_of}
+use Rattle.sm_values.specs.Permissions.{bit, class_read, perm_read}
+use Rattle.sm_values.specs.Reading.{◌>>=◌}
 use Rattle.sm_types.specs.Denoting.{declares}
 use Rattle.sm_policy.specs.Policy.{Policy, label_of}
 use Rattle.sm_questions.specs.declared.filtering.Filter.{Filter}

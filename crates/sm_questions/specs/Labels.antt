@@ -1,6 +1,6 @@
 -- What `svcmgr label` writes.
 use Rattle.std.specs.Prelude.{ℕ, List, [], ◌++◌, find, Option, Some, None, codes}
-use Rattle.sm_kinds.specs.Messages.{numbered}
+use Rattle.sm_values.specs.Messages.{numbered}
 use Rattle.sm_contexts.specs.Reading.{Entry, has_key, or_default}
 use Rattle.sm_policy.specs.Policy.{Policy}
 

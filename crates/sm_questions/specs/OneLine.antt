@@ -2,7 +2,7 @@
 use Rattle.std.specs.Prelude.{ℕ, ◌+◌, ◌-◌, Bool, true, false, ◌&&◌, not, ◌==◌, if◌then◌else◌}
 use Rattle.std.specs.Prelude.{List, [], ◌∷◌, ◌++◌, codes, length, take, drop}
 use Rattle.std.specs.List.{ends_with, prefix_len}
-use Rattle.sm_kinds.specs.Lines.{is_blank}
+use Rattle.sm_values.specs.Lines.{is_blank}
 use Rattle.sm_contexts.specs.Lines.{lines}
 
 -- This is the number of bytes of a line before the first one with this value, or of all.

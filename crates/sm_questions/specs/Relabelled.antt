@@ -2,7 +2,7 @@
 use Rattle.std.specs.Prelude.{ℕ, if◌then◌else◌, List, [], ◌∷◌, ◌++◌, codes}
 use Rattle.std.specs.List.{flat_map}
 use Rattle.std.specs.Str.{bytes_eq}
-use Rattle.sm_kinds.specs.Names.{contains}
+use Rattle.sm_values.specs.Names.{contains}
 use Rattle.sm_policy.specs.Policy.{Policy, label_of}
 use Rattle.sm_questions.specs.Keys.{keys_of}
 

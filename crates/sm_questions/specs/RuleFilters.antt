@@ -1,7 +1,7 @@
 -- What `svcmgr rules` is asked for.
 use Rattle.std.specs.Prelude.{ℕ, List, if◌then◌else◌, Option, Some, None, Result, Ok, Err, codes}
 use Rattle.std.specs.Str.{bytes_eq}
-use Rattle.sm_kinds.specs.Reading.{◌>>=◌}
+use Rattle.sm_values.specs.Reading.{◌>>=◌}
 use Rattle.sm_ruletext.specs.declared.statement.RuleKind.{RuleKind}
 use Rattle.sm_ruletext.specs.declared.statement.RuleKind.TheVariants.{Allow, Neverallow, Dontaudit}
 use Rattle.sm_policy.specs.Policy.{Policy}

@@ -1,8 +1,8 @@
 -- What the laws of the rules that are listed speak of.
 use Rattle.std.specs.Prelude.{◌≡◌, ℕ, true, List, Some, is_some}
-use Rattle.sm_kinds.specs.declared.class.Class.{Class}
-use Rattle.sm_kinds.specs.declared.perms.Perms.{Perms}
-use Rattle.sm_kinds.specs.Permissions.{perm_of}
+use Rattle.sm_values.specs.declared.class.Class.{Class}
+use Rattle.sm_values.specs.declared.perms.Perms.{Perms}
+use Rattle.sm_values.specs.Permissions.{perm_of}
 use Rattle.sm_types.specs.Denoting.{declares}
 use Rattle.sm_policy.specs.Policy.{Policy}
 use Rattle.sm_questions.specs.declared.filtering.Filter.{Filter}

@@ -1,6 +1,6 @@
 -- The lines of a policy's files that a refusal names.
 use Rattle.std.specs.Prelude.{ℕ, ◌-◌, List, [], ◌++◌, Option, Some, None, codes}
-use Rattle.sm_kinds.specs.Messages.{numbered}
+use Rattle.sm_values.specs.Messages.{numbered}
 use Rattle.sm_contexts.specs.Lines.{lines}
 use Rattle.sm_contexts.specs.declared.fault.ContextsFault.{ContextsFault}
 use Rattle.sm_contexts.specs.declared.fault.ContextsFault.TheVariants as labels

@@ -1,8 +1,8 @@
 -- The words of a question.
 use Rattle.std.specs.Prelude.{ℕ, List, ◌++◌, not, if◌then◌else◌, Option, Some, None, Result, Ok, Err, codes}
-use Rattle.sm_kinds.specs.declared.class.Class.{Class}
-use Rattle.sm_kinds.specs.declared.perms.Perms.{Perms}
-use Rattle.sm_kinds.specs.Permissions.{class_read, perm_read}
+use Rattle.sm_values.specs.declared.class.Class.{Class}
+use Rattle.sm_values.specs.declared.perms.Perms.{Perms}
+use Rattle.sm_values.specs.Permissions.{class_read, perm_read}
 use Rattle.sm_types.specs.Denoting.{declares}
 use Rattle.sm_policy.specs.Policy.{Policy}
 use Rattle.sm_questions.specs.declared.unknown.Unknown.{Unknown}

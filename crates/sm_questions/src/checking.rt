@@ -7,8 +7,8 @@ ghost use Rattle.sm_policy.specs.Preparing.{prepared};
 ghost use Rattle.sm_questions.specs.Checking as spec;
 
 use sm_engine::{Counted, Fault, write_whole};
-use sm_kinds::push_numbered;
 use sm_policy::{Counts, PolicyFault, Prepared, refused_text};
+use sm_values::push_numbered;
 use std::alloc::{AllocError, Global};
 use std::io::Write;
 

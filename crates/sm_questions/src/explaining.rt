@@ -7,8 +7,8 @@ ghost use Rattle.sm_questions.specs.Explanations as spec;
 
 use crate::lookups::is_permissive;
 use sm_engine::{Counted, Fault, write_whole};
-use sm_kinds::{Class, Perms, push_numbered};
 use sm_policy::Prepared;
+use sm_values::{Class, Perms, push_numbered};
 use std::alloc::{AllocError, Global};
 use std::io::Write;
 

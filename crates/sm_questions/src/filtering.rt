@@ -6,8 +6,8 @@ ghost use Rattle.sm_questions.specs.Filters as spec;
 
 use crate::Unknown;
 use crate::lookups::is_declared;
-use sm_kinds::{Class, Perms, Word, spells};
 use sm_policy::Prepared;
+use sm_values::{Class, Perms, Word, spells};
 
 /// The permissions of `service_manager`.
 const OF_SERVICE_MANAGER: Perms = Perms(Perms::ADD.0 | Perms::FIND.0 | Perms::LIST.0);

@@ -7,9 +7,9 @@ ghost use Rattle.sm_rules.specs.Keeping.{FitsRule, covered_line, covers};
 ghost use Rattle.sm_questions.specs.FirstLines.{AreNear, HasFound, IsTable, kept_line, line_in, place_in, rules_at};
 
 use sm_bits::{SharedSet, has_bit};
-use sm_kinds::drop_fields;
 use sm_rules::{Kept, PERM_COUNT, Rules};
 use sm_types::TypeCount;
+use sm_values::drop_fields;
 use std::alloc::{AllocError, Global};
 
 /// The number of sources in a block.

@@ -7,8 +7,8 @@ ghost use Rattle.sm_questions.specs.Labels as spec;
 
 use crate::lookups::label_entry;
 use sm_engine::{Counted, Fault, write_whole};
-use sm_kinds::push_numbered;
 use sm_policy::Prepared;
+use sm_values::push_numbered;
 use std::alloc::{AllocError, Global};
 use std::io::Write;
 

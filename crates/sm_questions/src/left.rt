@@ -12,10 +12,10 @@ use crate::Filter;
 use crate::filtering::is_left;
 use crate::lookups::{type_count, type_name};
 use sm_bits::BitRow;
-use sm_kinds::{Perms, Word, drop_fields};
 use sm_policy::Prepared;
 use sm_rules::{Kept, PERM_COUNT, has_perm};
 use sm_types::TypeCount;
+use sm_values::{Perms, Word, drop_fields};
 use std::alloc::{AllocError, Global};
 
 /// The types and the permissions of the accesses that a filter leaves.

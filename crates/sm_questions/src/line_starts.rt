@@ -3,7 +3,7 @@
 ghost use Rattle.std.specs.Prelude.{◌≡◌, IfOk};
 ghost use Rattle.sm_questions.specs.LineStarts.{AreStarts};
 
-use sm_kinds::line_len;
+use sm_values::line_len;
 use std::alloc::{AllocError, Global};
 
 /// Returns the index of the first byte of each line.

@@ -18,9 +18,9 @@ use crate::first_lines::LineTable;
 use crate::lookups::{byte_at, type_count, type_name};
 use sm_bits::{has_bit, with_bit};
 use sm_engine::{Counted, Fault, write_whole};
-use sm_kinds::{Perms, Word, push_access, push_numbered};
 use sm_policy::Prepared;
 use sm_rules::{PERM_COUNT, class_at, perm_at};
+use sm_values::{Perms, Word, push_access, push_numbered};
 use std::alloc::{AllocError, Global};
 use std::io::Write;
 

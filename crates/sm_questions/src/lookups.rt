@@ -2,7 +2,7 @@
 
 ghost use Rattle.std.specs.Prelude.{◌≡◌, ◌<◌, Some, length, option_map};
 ghost use Rattle.std.proofs.Common.{get_or};
-ghost use Rattle.sm_kinds.specs.Names.{contains};
+ghost use Rattle.sm_values.specs.Names.{contains};
 ghost use Rattle.sm_contexts.specs.Reading.{line_and_context, seen};
 ghost use Rattle.sm_types.specs.Denoting.{declares, types};
 ghost use Rattle.sm_types.specs.Names.{at};
@@ -10,8 +10,8 @@ ghost use Rattle.sm_policy.specs.Policy as spec;
 ghost use Rattle.sm_questions.specs.Keys.{keys_of};
 ghost use Rattle.sm_questions.specs.Labels as labels;
 
-use sm_kinds::Context;
 use sm_policy::Prepared;
+use sm_values::Context;
 
 /// Returns the byte of a type in a row, or 0 if there is none.
 #[inline]

@@ -14,9 +14,9 @@ ghost use Rattle.sm_questions.specs.TypeNumbers.{AreNumbersIn};
 
 use crate::lookups::{byte_at, type_count, type_name};
 use crate::type_numbers::TypeNumbers;
-use sm_kinds::push_access;
 use sm_policy::Prepared;
 use sm_rules::{PERM_COUNT, class_at, perm_at};
+use sm_values::push_access;
 use std::alloc::{AllocError, Global};
 
 /// Returns whether only the first policy allows an access of two of its types.

@@ -5,7 +5,7 @@ ghost use Rattle.sm_contexts.specs.Lines.{lines};
 ghost use Rattle.sm_questions.specs.OneLine as spec;
 
 use sm_contexts::Lines;
-use sm_kinds::is_blank;
+use sm_values::is_blank;
 use std::alloc::{AllocError, Global};
 
 /// The most bytes of a statement that are shown.

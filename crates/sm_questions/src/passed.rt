@@ -7,9 +7,9 @@ ghost use Rattle.sm_ruletext.specs.declared.statement.RuleKind.{RuleKind as TheK
 ghost use Rattle.sm_rules.specs.Keeping.{FitsRule, of_kind, rule_in};
 ghost use Rattle.sm_questions.specs.Covering as spec;
 
-use sm_kinds::drop_fields;
 use sm_rules::{Kept, Rules};
 use sm_ruletext::{RuleKind, Statement, What};
+use sm_values::drop_fields;
 
 /// The number of kept rules of each kind that were passed.
 pub struct Passed {

@@ -6,7 +6,7 @@ ghost use Rattle.sm_questions.specs.Shown.{shown_statement};
 
 use crate::line_starts::line_starts;
 use crate::showing_all::push_statement;
-use sm_kinds::drop_fields;
+use sm_values::drop_fields;
 use std::alloc::{AllocError, Global};
 
 /// The statements of a policy source, each as `FILE:LINE: STATEMENT`.

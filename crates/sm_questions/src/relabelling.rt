@@ -3,8 +3,8 @@
 ghost use Rattle.std.specs.Prelude.{◌≡◌, ◌++◌, OnOk};
 ghost use Rattle.sm_questions.specs.Relabelled as spec;
 
-use sm_kinds::spells;
 use sm_policy::Prepared;
+use sm_values::spells;
 use std::alloc::AllocError;
 
 /// Appends `KEY OLD NEW`.

@@ -5,9 +5,9 @@ ghost use Rattle.sm_questions.specs.RuleFilters as spec;
 
 use crate::Unknown;
 use crate::filtering::{Filter, FilterOptions, read_filter};
-use sm_kinds::{Word, spells};
 use sm_policy::Prepared;
 use sm_ruletext::RuleKind;
+use sm_values::{Word, spells};
 
 /// The options of a list of rules, as words.
 #[derive(Drop)]

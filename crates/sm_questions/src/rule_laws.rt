@@ -1,8 +1,8 @@
 //! Which rules are listed for a single access, as laws.
 
 ghost use Rattle.std.specs.Prelude.{◌≡◌, ◌++◌, ℕ, List, [], Ok, Some, false, codes, option_map, slice_get};
-ghost use Rattle.sm_kinds.specs.declared.class.Class.{Class as TheClass};
-ghost use Rattle.sm_kinds.specs.declared.perms.Perms.{Perms as ThePerms};
+ghost use Rattle.sm_values.specs.declared.class.Class.{Class as TheClass};
+ghost use Rattle.sm_values.specs.declared.perms.Perms.{Perms as ThePerms};
 ghost use Rattle.sm_ruletext.specs.declared.statement.RuleKind.TheVariants.{Allow};
 ghost use Rattle.sm_policy.specs.Policy.{Policy as ThePolicy, written, written_at};
 ghost use Rattle.sm_questions.specs.RuleFilters.{rule_filter_of};

@@ -1,16 +1,16 @@
 //! The statements and lines of a policy's files that a refusal names.
 
 ghost use Rattle.std.specs.Prelude.{◌≡◌, ◌++◌, IfOk, OnOk, codes};
-ghost use Rattle.sm_kinds.specs.Messages.{numbered};
+ghost use Rattle.sm_values.specs.Messages.{numbered};
 ghost use Rattle.sm_questions.specs.Shown as spec;
 
 use crate::one_line::statement_at;
 use sm_contexts::{ContextsFault, Lines};
-use sm_kinds::push_numbered;
 use sm_policy::{PolicyFault, Violation};
 use sm_rules::RulesFault;
 use sm_ruletext::RuleTextFault;
 use sm_types::TypesFault;
+use sm_values::push_numbered;
 use std::alloc::{AllocError, Global};
 
 /// Returns the line of a number, counted from 1. Nothing if there is none.

@@ -8,8 +8,8 @@ use crate::{
     read_rule_filter, rules, shown_lines, unknown_text,
 };
 use sm_engine::Counted;
-use sm_kinds::Word;
 use sm_policy::Prepared;
+use sm_values::Word;
 use std::alloc::Global;
 use std::process::Abort;
 

@@ -7,8 +7,8 @@ ghost use Rattle.sm_policy.specs.Policy.{type_index};
 ghost use Rattle.sm_questions.specs.TypeNumbers.{AreNumbersIn};
 
 use crate::lookups::{type_count, type_name};
-use sm_kinds::drop_fields;
 use sm_policy::Prepared;
+use sm_values::drop_fields;
 use std::alloc::{AllocError, Global};
 
 /// The numbers in the other policy of the types of one.

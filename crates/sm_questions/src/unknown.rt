@@ -4,8 +4,8 @@ ghost use Rattle.std.specs.Prelude.{◌≡◌, IfOk};
 ghost use Rattle.sm_questions.specs.Words.{access_of, perm_in, unknown_words};
 
 use crate::lookups::is_declared;
-use sm_kinds::{Class, Perms, Word};
 use sm_policy::Prepared;
+use sm_values::{Class, Perms, Word};
 use std::alloc::{AllocError, Global};
 use thiserror::Error;
 

@@ -5,10 +5,10 @@ use Rattle.std.specs.List.{cons_option}
 use Rattle.std.specs.Str.{bytes_eq}
 use Rattle.std.proofs.lemmas.Bool.{cases_eq, eq-eqb, ne_eqb, false_from_ne_true, or_parts, and_right}
 use Rattle.std.proofs.lemmas.Slice.Eq.{bytes_eq-Decides}
-use Rattle.sm_kinds.specs.Permissions.{class_word, perm_of}
-use Rattle.sm_kinds.specs.declared.class.Class.{Class}
-use Rattle.sm_kinds.specs.declared.class.Class.TheVariants.{ServiceManager, Binder}
-use Rattle.sm_kinds.specs.declared.perms.Perms.{Perms}
+use Rattle.sm_values.specs.Permissions.{class_word, perm_of}
+use Rattle.sm_values.specs.declared.class.Class.{Class}
+use Rattle.sm_values.specs.declared.class.Class.TheVariants.{ServiceManager, Binder}
+use Rattle.sm_values.specs.declared.perms.Perms.{Perms}
 use Rattle.sm_ruletext.specs.Sets.{selects}
 use Rattle.sm_ruletext.specs.Kept.{is_kept}
 use Rattle.sm_ruletext.specs.declared.rule.Rule.{Rule}

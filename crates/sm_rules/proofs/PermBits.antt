@@ -7,7 +7,7 @@ use Rattle.std.proofs.lemmas.Nat.{one_shl, pow_pos}
 use Rattle.std.proofs.lemmas.Nat.Bits.{and_pow, bit_at_and, bit_at-lt}
 use Rattle.sm_bits.specs.Bits.{has_bit}
 use Rattle.sm_bits.proofs.ByteBits.{bit_added}
-use Rattle.sm_kinds.specs.Permissions.{perm_of, perm_word}
+use Rattle.sm_values.specs.Permissions.{perm_of, perm_word}
 use Rattle.sm_rules.specs.Keeping.{class_at, perm_at}
 
 -- A set contains a single flag if it has the bit.

@@ -2,8 +2,8 @@
 use Rattle.std.proofs.Common.{◌≡◌, ℕ, Bool, true, false, ◌&&◌, ◌||◌, None, refl}
 use Rattle.std.specs.Str.{bytes_eq}
 use Rattle.std.proofs.lemmas.Slice.Eq.{bytes_eq-Decides}
-use Rattle.sm_kinds.specs.declared.class.Class.{Class}
-use Rattle.sm_kinds.specs.declared.perms.Perms.{Perms}
+use Rattle.sm_values.specs.declared.class.Class.{Class}
+use Rattle.sm_values.specs.declared.perms.Perms.{Perms}
 use Rattle.sm_ruletext.specs.Items.{Set}
 use Rattle.sm_ruletext.specs.declared.rule.Rule.{Rule}
 use Rattle.sm_ruletext.specs.declared.statement.RuleKind.TheVariants.{Allow}

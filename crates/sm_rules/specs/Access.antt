@@ -2,9 +2,9 @@
 use Rattle.std.specs.Prelude.{◌≡◌, ℕ, Bool, false, not, ◌&&◌, ◌||◌, find, Option, Some, None, is_some, option_map}
 use Rattle.std.specs.List.{list_any}
 use Rattle.std.specs.Str.{bytes_eq}
-use Rattle.sm_kinds.specs.Permissions.{class_word, perm_of}
-use Rattle.sm_kinds.specs.declared.class.Class.{Class}
-use Rattle.sm_kinds.specs.declared.perms.Perms.{Perms}
+use Rattle.sm_values.specs.Permissions.{class_word, perm_of}
+use Rattle.sm_values.specs.declared.class.Class.{Class}
+use Rattle.sm_values.specs.declared.perms.Perms.{Perms}
 use Rattle.sm_ruletext.specs.Sets.{selects}
 use Rattle.sm_ruletext.specs.Items.{Set}
 use Rattle.sm_ruletext.specs.declared.rule.Rule.{Rule}

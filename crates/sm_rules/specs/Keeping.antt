@@ -4,9 +4,9 @@ use Rattle.std.specs.Prelude.{if◌then◌else◌, List, [], ◌∷◌, ◌++◌
 use Rattle.std.specs.Prelude.{None, All, option_and_then}
 use Rattle.std.specs.List.{list_any, filter_map}
 use Rattle.sm_bits.specs.Bits.{has, has_bit}
-use Rattle.sm_kinds.specs.Permissions.{bit}
-use Rattle.sm_kinds.specs.declared.class.Class.{Class, TheVariants.ServiceManager, TheVariants.Binder}
-use Rattle.sm_kinds.specs.declared.perms.Perms.{Perms}
+use Rattle.sm_values.specs.Permissions.{bit}
+use Rattle.sm_values.specs.declared.class.Class.{Class, TheVariants.ServiceManager, TheVariants.Binder}
+use Rattle.sm_values.specs.declared.perms.Perms.{Perms}
 use Rattle.sm_ruletext.specs.Kept.{is_kept}
 use Rattle.sm_ruletext.specs.declared.rule.Rule.{Rule}
 use Rattle.sm_ruletext.specs.declared.statement.RuleKind.{RuleKind}

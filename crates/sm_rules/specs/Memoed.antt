@@ -1,7 +1,7 @@
 -- What is kept of sets and rules that were looked at before.
 use Rattle.std.specs.Prelude.{◌≡◌, ℕ, Bool, ◌<◌, ◌≤◌, ◌+◌, ◌/◌, true, false, All, List, length}
 use Rattle.sm_bits.specs.Bits.{has, has_bit}
-use Rattle.sm_kinds.specs.declared.perms.Perms.{Perms}
+use Rattle.sm_values.specs.declared.perms.Perms.{Perms}
 use Rattle.sm_ruletext.specs.Items.{Set, SameItems}
 use Rattle.sm_ruletext.specs.declared.rule.Rule.{Rule}
 use Rattle.sm_types.specs.Names.{at}

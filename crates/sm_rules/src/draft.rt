@@ -18,9 +18,9 @@ use crate::kept::{Kept, keep};
 use crate::memo::Memo;
 use crate::row_pool::RowPool;
 use sm_bits::BitRow;
-use sm_kinds::Name;
 use sm_ruletext::{RuleKind, Statement, What};
 use sm_types::Types;
+use sm_values::Name;
 use std::alloc::Global;
 
 /// The kept rules and the permissive types of the statements so far.

@@ -20,9 +20,9 @@ use crate::memo::Memo;
 use crate::perm_bits::{has_perm, perms_of};
 use crate::row_pool::RowPool;
 use sm_bits::SharedSet;
-use sm_kinds::{Class, Names, Perms, drop_fields};
 use sm_ruletext::{Rule, Set};
 use sm_types::{Types, TypesFault};
+use sm_values::{Class, Names, Perms, drop_fields};
 use std::alloc::{AllocError, Global};
 
 /// A kept rule: its types as numbers, its permissions as bits.

@@ -5,8 +5,8 @@ ghost use Rattle.sm_types.specs.declared.table.Table.{Table as TheTable};
 ghost use Rattle.sm_rules.specs.Memoed.{Denotes, Grants, IsRight};
 
 use sm_bits::SharedSet;
-use sm_kinds::{Perms, drop_fields};
 use sm_ruletext::{Rule, Set};
+use sm_values::{Perms, drop_fields};
 use std::alloc::{AllocError, Global};
 use std::marker::Model;
 

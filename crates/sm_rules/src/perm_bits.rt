@@ -1,15 +1,15 @@
 //! The permissions of a rule as bits.
 
 ghost use Rattle.std.specs.Prelude.{◌≡◌, ℕ, ◌<◌, ◌≤◌, ◌&&◌, ◌||◌, nat_eq, IfSome, IfNone, is_some, true, false};
-ghost use Rattle.sm_kinds.specs.Permissions.{class_word, perm_of};
+ghost use Rattle.sm_values.specs.Permissions.{class_word, perm_of};
 ghost use Rattle.sm_ruletext.specs.Sets.{selects};
 ghost use Rattle.sm_rules.specs.Access.{gives, picks};
 ghost use Rattle.sm_bits.specs.Bits.{has_bit};
 ghost use Rattle.sm_rules.specs.Keeping.{class_at, perm_at};
 
 use bitflags::Flags;
-use sm_kinds::{Class, Perms};
 use sm_ruletext::{Rule, Set};
+use sm_values::{Class, Perms};
 
 /// The number of permissions, which are numbered from 0 in the order of their bits.
 pub const PERM_COUNT: u32 = 7;

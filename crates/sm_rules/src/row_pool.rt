@@ -7,8 +7,8 @@ ghost use Rattle.sm_rules.specs.Pooling.{HasMembersBefore, HasMembers};
 
 use indexmap::IndexMap;
 use sm_bits::{BitRow, SharedSet};
-use sm_kinds::drop_fields;
 use sm_types::Types;
+use sm_values::drop_fields;
 use std::alloc::{AllocError, Global};
 use std::marker::Model;
 use std::sync::Arc;

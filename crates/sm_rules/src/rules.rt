@@ -15,9 +15,9 @@ use crate::draft::{Draft, all_rules};
 use crate::kept::Kept;
 use crate::perm_bits::number_of;
 use sm_bits::BitRow;
-use sm_kinds::{Class, Perms, drop_fields};
 use sm_ruletext::Statement;
 use sm_types::{TypeCount, Types};
+use sm_values::{Class, Perms, drop_fields};
 use std::alloc::Global;
 use std::marker::Model;
 

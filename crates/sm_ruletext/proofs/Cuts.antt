@@ -2,7 +2,7 @@
 use Rattle.std.proofs.Common.{◌≡◌, ℕ, zero, suc, ◌+◌, ◌≤◌, true, false, ◌||◌, cond, eqb, List, [], ◌∷◌, length}
 use Rattle.std.proofs.Common.{get_or, drop, ◌<◌, refl, ap, sym, arith}
 use Rattle.std.specs.List.{prefix_len}
-use Rattle.sm_kinds.specs.Lines.{is_blank, is_in_line}
+use Rattle.sm_values.specs.Lines.{is_blank, is_in_line}
 use Rattle.sm_ruletext.specs.Lexing.{Tokens, tokens, kind_at, len_after, IsAtToken}
 use Rattle.std.proofs.lemmas.Bool.{not-true, or_parts, ne_eqb}
 use Rattle.sm_ruletext.specs.declared.token.TokenKind.{TokenKind}

@@ -4,8 +4,8 @@ use Rattle.sm_ruletext.specs.declared.token.TokenKind.{TokenKind}
 use Rattle.sm_ruletext.specs.declared.fault.RuleTextFault.{RuleTextFault}
 use Rattle.sm_ruletext.specs.declared.statement.Statement.{Statement}
 use Rattle.sm_ruletext.specs.Lexing.{Tokens}
-use Rattle.sm_kinds.specs.Reading.{◌>>=◌, Fails}
-use Rattle.sm_kinds.proofs.Readers.{fails_along}
+use Rattle.sm_values.specs.Reading.{◌>>=◌, Fails}
+use Rattle.sm_values.proofs.Readers.{fails_along}
 use Rattle.sm_ruletext.specs.Grammar.{Step, is_memory}
 use Rattle.sm_ruletext.specs.Statements.{statement_from, statements_within, statements_of}
 

@@ -13,8 +13,8 @@ use Rattle.sm_ruletext.specs.Items.{Set}
 use Rattle.sm_ruletext.specs.declared.rule.Rule.{Rule}
 use Rattle.sm_ruletext.specs.Lexing.{Tokens}
 use Rattle.sm_ruletext.specs.Words.{is_self}
-use Rattle.sm_kinds.specs.Reading.{◌>>=◌}
-use Rattle.sm_kinds.proofs.Readers.{went_well}
+use Rattle.sm_values.specs.Reading.{◌>>=◌}
+use Rattle.sm_values.proofs.Readers.{went_well}
 use Rattle.sm_ruletext.specs.Grammar.{Step, Read, no_items, with_word, group_at, items_from, set_of, set_from, set_at}
 use Rattle.sm_ruletext.specs.Grammar.{kind_at, colon_at, semicolon_at, rule_at}
 use Rattle.sm_ruletext.proofs.Turns.{ok_parts}

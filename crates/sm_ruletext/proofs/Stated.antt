@@ -18,9 +18,9 @@ use Rattle.sm_ruletext.specs.declared.keyword.Keyword.{Keyword}
 use Rattle.sm_ruletext.specs.declared.keyword.Keyword.TheVariants as word
 use Rattle.sm_ruletext.specs.Lexing.{Tokens, tokens}
 use Rattle.sm_ruletext.specs.Words.{is_self, keyword_of}
-use Rattle.sm_kinds.specs.Reading.{◌>>=◌, Gives}
-use Rattle.sm_kinds.specs.declared.limits.TheConstants.{MOST_TEXT_BYTES}
-use Rattle.sm_kinds.proofs.Readers.{went_well}
+use Rattle.sm_values.specs.Reading.{◌>>=◌, Gives}
+use Rattle.sm_values.specs.declared.limits.TheConstants.{MOST_TEXT_BYTES}
+use Rattle.sm_values.proofs.Readers.{went_well}
 use Rattle.sm_ruletext.specs.Grammar.{Step, Read, is_memory, name_at, names_at, semicolon_at, colon_at, set_at, rule_at}
 use Rattle.sm_ruletext.specs.Kept.{is_kept}
 use Rattle.sm_ruletext.specs.Statements.{skipped_at, what_at, with_statement, statement_from, statements_within}

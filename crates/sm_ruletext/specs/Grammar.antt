@@ -1,6 +1,6 @@
 -- The grammar, read from left to right over tokens. `line` is that of the statement.
 use Rattle.std.specs.Prelude.{ℕ, zero, suc, Bool, true, false, if◌then◌else◌, List, [], ◌∷◌, ◌++◌, Result, Ok, Err}
-use Rattle.sm_kinds.specs.Reading.{◌>>=◌, Gives}
+use Rattle.sm_values.specs.Reading.{◌>>=◌, Gives}
 use Rattle.sm_ruletext.specs.declared.token.TokenKind.{TokenKind}
 use Rattle.sm_ruletext.specs.declared.token.TokenKind.TheVariants.{Word, Semicolon, Comma, Colon, Open, Close, Star}
 use Rattle.sm_ruletext.specs.declared.token.TokenKind.TheVariants.{Tilde}

@@ -3,7 +3,7 @@ use Rattle.std.specs.Prelude.{ℕ, zero, suc, ◌+◌, Bool, false, not, ◌&&�
 use Rattle.std.specs.Prelude.{take, slice_index, IsTrue}
 use Rattle.std.specs.List.{prefix_len, list_all}
 use Rattle.std.specs.Char.{is_ascii_alphabetic, is_ascii_alphanumeric}
-use Rattle.sm_kinds.specs.Lines.{is_blank, is_in_line}
+use Rattle.sm_values.specs.Lines.{is_blank, is_in_line}
 use Rattle.sm_ruletext.specs.declared.token.TokenKind.{TokenKind}
 use Rattle.sm_ruletext.specs.declared.token.TokenKind.TheVariants.{Word, Semicolon, Comma, Colon, Open, Close, Star}
 use Rattle.sm_ruletext.specs.declared.token.TokenKind.TheVariants.{Tilde}

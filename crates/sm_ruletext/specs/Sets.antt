@@ -1,6 +1,6 @@
 -- Sets of names that denote only themselves, as classes and permissions do.
 use Rattle.std.specs.Prelude.{ℕ, Bool, not, ◌&&◌, ◌||◌, if◌then◌else◌, List, codes}
-use Rattle.sm_kinds.specs.Names.{contains}
+use Rattle.sm_values.specs.Names.{contains}
 use Rattle.sm_ruletext.specs.Items.{Set}
 
 -- A set has a name: a positive item is that name and no `-` item is; `~` negates that.

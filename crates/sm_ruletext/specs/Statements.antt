@@ -1,8 +1,8 @@
 -- The statements of a policy source.
 use Rattle.std.specs.Prelude.{ℕ, zero, suc, Bool, true, false, ◌&&◌, nat_le, nat_lt, count_by, if◌then◌else◌, List}
 use Rattle.std.specs.Prelude.{[], ◌∷◌, ◌++◌, length, Option, Some, None, Ok, Err}
-use Rattle.sm_kinds.specs.Reading.{◌>>=◌}
-use Rattle.sm_kinds.specs.declared.limits.TheConstants.{MOST_TEXT_BYTES}
+use Rattle.sm_values.specs.Reading.{◌>>=◌}
+use Rattle.sm_values.specs.declared.limits.TheConstants.{MOST_TEXT_BYTES}
 use Rattle.sm_ruletext.specs.declared.limits.TheConstants.{MOST_RULES}
 use Rattle.sm_ruletext.specs.declared.token.TokenKind.{TokenKind, TheVariants.Word, TheVariants.Semicolon}
 use Rattle.sm_ruletext.specs.declared.fault.RuleTextFault.TheVariants.{TooLarge, Syntax, Unsupported, TooMany}

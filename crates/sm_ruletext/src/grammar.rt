@@ -3,7 +3,7 @@
 ghost use Rattle.std.specs.Prelude.{◌≡◌, ◌<◌, ◌≤◌, ◌+◌, ◌^◌, ◌++◌, ◌∷◌, [], zero, true, false, length, option_to_list};
 ghost use Rattle.std.specs.Prelude.{OnOk, IfOk};
 ghost use Rattle.sm_ruletext.specs.Grammar as spec;
-ghost use Rattle.sm_kinds.specs.Reading.{Gives};
+ghost use Rattle.sm_values.specs.Reading.{Gives};
 ghost use Rattle.sm_ruletext.specs.Grammar.{Reads, is_memory};
 
 use crate::items::Items;
@@ -11,7 +11,7 @@ use crate::keyword::is_self;
 use crate::token::TokenKind;
 use crate::tokens::Tokens;
 use crate::{Rule, RuleTextFault, Set};
-use sm_kinds::{Name, Names, Word};
+use sm_values::{Name, Names, Word};
 use std::alloc::Global;
 
 /// Returns the next token.

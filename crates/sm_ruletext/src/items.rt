@@ -3,7 +3,7 @@
 ghost use Rattle.std.specs.Prelude.{◌≡◌, OnOk};
 ghost use Rattle.sm_ruletext.specs.Grammar as spec;
 
-use sm_kinds::{Word, drop_fields};
+use sm_values::{Word, drop_fields};
 use std::alloc::{AllocError, Global};
 use std::marker::Model;
 

@@ -4,7 +4,7 @@ ghost use Rattle.std.specs.Prelude.{◌≡◌};
 ghost use Rattle.sm_ruletext.specs.Words as spec;
 
 use crate::RuleKind;
-use sm_kinds::spells;
+use sm_values::spells;
 
 /// The kind of a statement, by its first word.
 #[derive(Clone, Copy)]

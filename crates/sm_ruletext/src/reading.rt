@@ -1,7 +1,7 @@
 //! Reads a whole policy source.
 
 ghost use Rattle.std.specs.Prelude.{◌≡◌, ◌<◌, ◌≤◌, ◌+◌, ◌^◌, ◌++◌, ◌∷◌, [], List, length, OnOk, IfOk, IfErr};
-ghost use Rattle.sm_kinds.specs.Reading.{Gives};
+ghost use Rattle.sm_values.specs.Reading.{Gives};
 ghost use Rattle.sm_ruletext.specs.Grammar.{Reads, is_memory};
 ghost use Rattle.sm_ruletext.specs.Lexing.{tokens};
 ghost use Rattle.sm_ruletext.specs.Spelling.{SpellsText, IsFaultOf};
@@ -15,7 +15,7 @@ use crate::statements::Statements;
 use crate::token::TokenKind;
 use crate::tokens::Tokens;
 use crate::{RuleKind, RuleTextFault, Statement, What, grammar};
-use sm_kinds::{MOST_TEXT_BYTES, Names};
+use sm_values::{MOST_TEXT_BYTES, Names};
 use std::alloc::Global;
 
 #[tactic(auto, unfolding(crate::specs::Statements::skipped_at, crate::specs::Grammar::kind_at))]

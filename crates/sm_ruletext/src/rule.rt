@@ -4,7 +4,7 @@ ghost use Rattle.std.specs.Prelude.{◌≡◌};
 ghost use Rattle.sm_ruletext.specs.Kept as spec;
 
 use crate::Set;
-use sm_kinds::drop_fields;
+use sm_values::drop_fields;
 
 /// What follows `allow`, `neverallow` or `dontaudit`: `SOURCE TARGET : CLASS PERM`.
 pub struct Rule {

@@ -5,7 +5,7 @@ ghost use Rattle.sm_ruletext.specs.Items.{SameItems, parts_of, set_with};
 ghost use Rattle.sm_ruletext.specs.Sets as spec;
 
 use crate::items::Items;
-use sm_kinds::{Names, Word, drop_fields, spells};
+use sm_values::{Names, Word, drop_fields, spells};
 use std::alloc::{AllocError, Global};
 use std::marker::Model;
 use std::rc::Rc;

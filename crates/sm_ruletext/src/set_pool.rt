@@ -8,7 +8,7 @@ use crate::Set;
 use crate::items::Items;
 use crate::set::SetParts;
 use crate::words::{Words, digest, digest_of};
-use sm_kinds::{Names, drop_fields};
+use sm_values::{Names, drop_fields};
 use std::alloc::{AllocError, Global};
 use std::marker::Model;
 use std::rc::Rc;

@@ -1,7 +1,7 @@
 //! Statements of a policy source.
 
 use crate::Rule;
-use sm_kinds::{Name, Names};
+use sm_values::{Name, Names};
 
 /// The kind of a rule.
 #[derive(Clone, Copy, PartialEq, Eq)]

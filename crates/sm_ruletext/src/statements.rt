@@ -1,7 +1,7 @@
 //! The statements of a source that is being read.
 
 ghost use Rattle.std.specs.Prelude.{◌≡◌, []};
-ghost use Rattle.sm_kinds.specs.Reading.{Gives};
+ghost use Rattle.sm_values.specs.Reading.{Gives};
 ghost use Rattle.sm_ruletext.specs.Grammar.{is_memory};
 ghost use Rattle.sm_ruletext.specs.Statements as spec;
 

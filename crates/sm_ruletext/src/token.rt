@@ -1,6 +1,6 @@
 //! Tokens.
 
-use sm_kinds::Word;
+use sm_values::Word;
 
 /// The kinds of tokens.
 #[derive(Drop)]

@@ -13,7 +13,7 @@ use crate::set_pool::SetPool;
 use crate::token::{Token, TokenKind};
 use crate::word::is_word_byte;
 use crate::words::Words;
-use sm_kinds::{MOST_TEXT_BYTES, Name, Word, behind, is_blank, line_len};
+use sm_values::{MOST_TEXT_BYTES, Name, Word, behind, is_blank, line_len};
 use std::alloc::{AllocError, Global};
 use std::marker::Model;
 

@@ -3,7 +3,7 @@
 ghost use Rattle.std.specs.Prelude.{◌≡◌, ◌≤◌, ◌+◌, length, IfOk, IfSome};
 
 use indexmap::IndexMap;
-use sm_kinds::{Name, Names, Word, spells};
+use sm_values::{Name, Names, Word, spells};
 use std::alloc::{AllocError, Global};
 use std::marker::Model;
 

@@ -1,6 +1,6 @@
 -- The lines of a talk.
 use Rattle.std.specs.Prelude.{ℕ, List, ◌++◌, codes, length}
-use Rattle.sm_kinds.specs.Messages.{numbered}
+use Rattle.sm_values.specs.Messages.{numbered}
 
 -- This is a line, with its newline.
 unfoldable pub line_of : List ℕ → List ℕ

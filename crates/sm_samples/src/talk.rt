@@ -4,7 +4,7 @@ ghost use Rattle.std.specs.Prelude.{◌≡◌, ◌++◌, [], OnOk};
 ghost use Rattle.std.specs.List.{flat_map};
 ghost use Rattle.sm_samples.specs.Talks.{line_of, reload_text};
 
-use sm_kinds::push_numbered;
+use sm_values::push_numbered;
 use std::alloc::{AllocError, Global};
 
 /// Request lines, each with the line that answers it.

@@ -9,11 +9,11 @@ use Rattle.sm_wire.specs.declared.request.Request.{Request}
 use Rattle.sm_wire.specs.declared.request.Request.TheVariants.{Denials, Look, Seal}
 use Rattle.sm_wire.specs.declared.item.Item.TheVariants.{Asked, Policy as OfPolicy}
 use Rattle.sm_wire.specs.Texts.{Texts}
-use Rattle.sm_kinds.specs.declared.number.ClientId.{ClientId}
+use Rattle.sm_values.specs.declared.number.ClientId.{ClientId}
 use Rattle.sm_policy.specs.Policy.{Policy}
 use Rattle.sm_policy.specs.Preparing.{is_memory, prepared}
 use Rattle.sm_policy.specs.declared.fault.PolicyFault.{PolicyFault}
-use Rattle.sm_kinds.specs.Reading.{Fails}
+use Rattle.sm_values.specs.Reading.{Fails}
 use Rattle.std.proofs.lemmas.List.{append-nil}
 use Rattle.sm_history.specs.declared.by.By.TheVariants.{Admin}
 use Rattle.sm_history.specs.declared.event.Event.TheVariants.{Reload}

@@ -1,11 +1,11 @@
 -- The answers to the items of a script.
 use Rattle.std.specs.Prelude.{◌≡◌, ◌⊎◌, ℕ, List, [], ◌++◌, Ok, codes, Option, Some, None}
 use Rattle.std.specs.List.{flat_map}
-use Rattle.sm_kinds.specs.declared.number.AdminId.{AdminId}
-use Rattle.sm_kinds.specs.declared.number.ClientId.{ClientId}
+use Rattle.sm_values.specs.declared.number.AdminId.{AdminId}
+use Rattle.sm_values.specs.declared.number.ClientId.{ClientId}
 use Rattle.sm_policy.specs.declared.fault.PolicyFault.{PolicyFault}
 use Rattle.sm_policy.specs.Policy.{Policy}
-use Rattle.sm_kinds.specs.Reading.{Fails}
+use Rattle.sm_values.specs.Reading.{Fails}
 use Rattle.sm_policy.specs.Preparing.{is_memory, prepared}
 use Rattle.sm_history.specs.declared.by.By.{By, TheVariants.Manager, TheVariants.Client, TheVariants.Admin}
 use Rattle.sm_history.specs.declared.event.Event.{Event, TheVariants.Connect, TheVariants.Reload}

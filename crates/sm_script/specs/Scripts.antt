@@ -1,9 +1,9 @@
 -- The result of a script's run.
 use Rattle.std.specs.Prelude.{◌≡◌, ◌⊎◌, ℕ, List, [], false, Option, None, IsSomeAnd, Result, Ok, Err}
-use Rattle.sm_kinds.specs.declared.class.Class.TheVariants.{Binder}
-use Rattle.sm_kinds.specs.Contexts.{type_of}
+use Rattle.sm_values.specs.declared.class.Class.TheVariants.{Binder}
+use Rattle.sm_values.specs.Contexts.{type_of}
 use Rattle.sm_policy.specs.Policy.{Policy, allowed}
-use Rattle.sm_kinds.specs.Reading.{Fails}
+use Rattle.sm_values.specs.Reading.{Fails}
 use Rattle.sm_policy.specs.Preparing.{is_memory, prepared}
 use Rattle.sm_history.specs.declared.refusal.Refusal.{Refusal, TheVariants.Memory}
 use Rattle.sm_history.specs.Checks.{managing}

@@ -17,8 +17,8 @@ ghost use Rattle.sm_script.specs.Answering.{the_administrator};
 use sm_audit::push_lines;
 use sm_core::Manager;
 use sm_history::{Answer, By, Event, Query, Record, Refusal, Reply};
-use sm_kinds::{AdminId, ClientId, Identity};
 use sm_policy::Prepared;
+use sm_values::{AdminId, ClientId, Identity};
 use sm_wire::{Telling, push_denials, push_reply};
 use std::alloc::{AllocError, Global};
 

@@ -13,8 +13,8 @@ use crate::judging::{
 use sm_core::Manager;
 use sm_engine::Machine;
 use sm_history::By;
-use sm_kinds::drop_fields;
 use sm_policy::Prepared;
+use sm_values::drop_fields;
 use sm_wire::{Item, PolicyTexts, Request, push_policy_refused};
 use std::alloc::{AllocError, Global};
 use std::marker::Model;

@@ -13,7 +13,7 @@ use sm_account::{Account, Chronicle, Monitor, Supervisor};
 use sm_bells::{Doorstep, Ringer};
 use sm_door::{Admin, Door, Naming, Seat, SeatOrSession};
 use sm_history::Gate;
-use sm_kinds::drop_fields;
+use sm_values::drop_fields;
 use std::alloc::{AllocError, Global};
 use std::net::Shutdown;
 use std::os::fd::AsRawFd;

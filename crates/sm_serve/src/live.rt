@@ -2,7 +2,7 @@
 
 use crate::arrived::{Arrived, Cutter, Guest};
 use crate::turned_away::TurnedAway;
-use sm_kinds::drop_fields;
+use sm_values::drop_fields;
 use std::alloc::{AllocError, Global};
 use std::rt::Clock;
 use std::sync::atomic::{AtomicU64, Ordering};

@@ -10,7 +10,7 @@ use crate::server_log::{ServerLog, WaitingLines};
 use crate::uninterrupted::Uninterrupted;
 use crate::whole_lines::WholeLines;
 use crossbeam_channel::RecvTimeoutError;
-use sm_kinds::drop_fields;
+use sm_values::drop_fields;
 use std::alloc::{AllocError, Global};
 use std::io::Write;
 use std::rt::Clock;

@@ -4,7 +4,7 @@ ghost use Rattle.std.specs.Prelude.{◌≡◌};
 
 use crate::patience::{Limited, Patience};
 use crate::queue::Queue;
-use sm_kinds::drop_fields;
+use sm_values::drop_fields;
 use std::cell::Cell;
 use std::io::{self, ErrorKind, Read, Write};
 use std::rt::Clock;

@@ -4,7 +4,7 @@ ghost use Rattle.std.specs.Prelude.{◌≡◌};
 
 use crate::patience::Limited;
 use sm_account::Page;
-use sm_kinds::drop_fields;
+use sm_values::drop_fields;
 use std::io::{self, Read, Write};
 use std::time::Duration;
 

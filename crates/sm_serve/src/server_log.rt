@@ -10,7 +10,7 @@ use crate::log_lines::LogLines;
 use crossbeam_channel::{Receiver, Sender, bounded};
 use sm_audit::push_lines;
 use sm_history::Record;
-use sm_kinds::drop_fields;
+use sm_values::drop_fields;
 use std::alloc::{AllocError, Global};
 use std::sync::Wait;
 use std::sync::atomic::{AtomicBool, AtomicU64, Ordering};

@@ -1,6 +1,6 @@
 //! How many connections were turned away.
 
-use sm_kinds::drop_fields;
+use sm_values::drop_fields;
 use std::sync::atomic::{AtomicU64, Ordering};
 
 /// The number of connections of a server that were turned away.

@@ -5,7 +5,7 @@ ghost use Rattle.std.specs.Prelude.{◌≡◌};
 use crate::arrived::Arrived;
 use crate::entrance::Entrance;
 use crate::turned_away::TurnedAway;
-use sm_kinds::drop_fields;
+use sm_values::drop_fields;
 use std::io::{self, Error, ErrorKind, Read};
 use std::rt::Clock;
 use std::time::{Duration, Instant};

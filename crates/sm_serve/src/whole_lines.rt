@@ -5,7 +5,7 @@ ghost use Rattle.std.specs.Io.KnownBytes.{Appends};
 ghost use Rattle.sm_serve.specs.Lines.{BreaksAt, WritesLines, bytes_of};
 
 use crate::log_lines::{LogLines, count_lines};
-use sm_kinds::drop_fields;
+use sm_values::drop_fields;
 use std::io::Write;
 
 /// A writer of whole lines. If a write fails in the middle of a line, the rest of it is written before anything else;

@@ -23,8 +23,8 @@ use Rattle.sm_types.specs.Declaring.{all_attributes, is_declared, with_declarati
 use Rattle.sm_types.specs.Denoting.{gives_attribute, has_attribute, declares, is_type_named, type_of, attribute_of}
 use Rattle.sm_types.specs.Denoting.{types, attributes, is_named}
 use Rattle.sm_types.specs.Members.{IsOf}
-use Rattle.sm_kinds.specs.Names.{contains}
-use Rattle.sm_kinds.specs.Reading.{◌>>=◌}
+use Rattle.sm_values.specs.Names.{contains}
+use Rattle.sm_values.specs.Reading.{◌>>=◌}
 use Rattle.sm_types.specs.declared.table.Table.{Table}
 use Rattle.sm_types.proofs.NameLemmas.{same_name, name_same, absent_at}
 

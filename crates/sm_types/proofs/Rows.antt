@@ -9,7 +9,7 @@ use Rattle.sm_bits.specs.Bits.{has, row}
 use Rattle.sm_types.specs.Names.{Name, at}
 use Rattle.sm_types.specs.Denoting.{gives_attribute, has_attribute}
 use Rattle.sm_types.specs.Members.{Given, Fits, MembersOf}
-use Rattle.sm_kinds.specs.Names.{contains}
+use Rattle.sm_values.specs.Names.{contains}
 use Rattle.sm_types.specs.declared.symbols.Symbols.{Symbols}
 use Rattle.sm_ruletext.specs.declared.statement.Statement.{Statement}
 

@@ -1,7 +1,7 @@
 -- The pass over the declarations.
 use Rattle.std.proofs.Common.{◌≡◌, List, [], ◌∷◌, Ok, Err, refl, sym, ◌∙◌}
-use Rattle.sm_kinds.specs.Reading.{◌>>=◌, Fails}
-use Rattle.sm_kinds.proofs.Readers.{fails_along}
+use Rattle.sm_values.specs.Reading.{◌>>=◌, Fails}
+use Rattle.sm_values.proofs.Readers.{fails_along}
 use Rattle.sm_ruletext.specs.declared.statement.Statement.{Statement}
 use Rattle.sm_types.specs.declared.symbols.Symbols.{Symbols}
 use Rattle.sm_types.specs.declared.fault.TypesFault.{TypesFault}

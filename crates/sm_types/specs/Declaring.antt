@@ -4,7 +4,7 @@ use Rattle.std.specs.Prelude.{length, find, option_map, Option, Some, None, Resu
 use Rattle.std.specs.Bool.{OnFalse}
 use Rattle.std.specs.List.{list_any, list_all}
 use Rattle.std.specs.Str.{bytes_eq}
-use Rattle.sm_kinds.specs.Reading.{◌>>=◌}
+use Rattle.sm_values.specs.Reading.{◌>>=◌}
 use Rattle.sm_ruletext.specs.declared.statement.What.{What}
 use Rattle.sm_ruletext.specs.declared.statement.What.TheVariants.{Attribute, Declared, Member, Rule, Permissive}
 use Rattle.sm_ruletext.specs.declared.statement.Statement.{Statement}

@@ -1,7 +1,7 @@
 -- Rows of bits for the members of attributes.
 use Rattle.std.specs.Prelude.{◌≡◌, ℕ, false, ◌&&◌, ◌||◌, nat_eq, nat_lt, ◌<◌, ◌≤◌, ◌/◌, ◌+◌, List, length, Ok}
 use Rattle.sm_bits.specs.Bits.{has, row}
-use Rattle.sm_kinds.specs.Names.{contains}
+use Rattle.sm_values.specs.Names.{contains}
 use Rattle.sm_types.specs.Names.{Name, at, Distinct}
 use Rattle.sm_types.specs.Denoting.{Policy, types, attributes, has_attribute}
 use Rattle.sm_types.specs.Declaring.{symbols_of}

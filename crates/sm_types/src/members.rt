@@ -12,8 +12,8 @@ ghost use Rattle.sm_bits.specs.Bits.{has, row};
 use crate::name_set::NameSet;
 use crate::symbols::Symbols;
 use sm_bits::{BitRow, empty_rows};
-use sm_kinds::Names;
 use sm_ruletext::{Statement, What};
+use sm_values::Names;
 use std::alloc::{AllocError, Global};
 
 /// Adds a type to the row of an attribute, if the attribute is declared.

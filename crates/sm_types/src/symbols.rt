@@ -3,15 +3,15 @@
 ghost use Rattle.std.specs.Prelude.{◌≡◌, ◌≤◌, length, IfOk, not, find, option_map};
 ghost use Rattle.std.specs.List.{list_any, list_all};
 ghost use Rattle.std.specs.Str.{bytes_eq};
-ghost use Rattle.sm_kinds.specs.Reading.{Gives};
+ghost use Rattle.sm_values.specs.Reading.{Gives};
 ghost use Rattle.sm_types.specs.Declaring as spec;
 ghost use Rattle.sm_types.specs.Declaring.{is_memory};
 ghost use Rattle.sm_types.specs.declared.TheConstants.{MOST_TYPES};
 
 use crate::name_set::NameSet;
 use crate::{MOST_ATTRIBUTES, MOST_TYPES, TypesFault};
-use sm_kinds::Names;
 use sm_ruletext::{Statement, What};
+use sm_values::Names;
 use std::alloc::Global;
 
 /// The types and the attributes of a policy source, which share one space of names.

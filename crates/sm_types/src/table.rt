@@ -5,7 +5,7 @@ ghost use Rattle.std.specs.Prelude.{not, nat_eq, nat_lt, false, true};
 ghost use Rattle.std.specs.List.{list_any};
 ghost use Rattle.std.specs.Str.{bytes_eq};
 ghost use Rattle.sm_bits.specs.Bits.{has, row};
-ghost use Rattle.sm_kinds.specs.Reading.{Fails};
+ghost use Rattle.sm_values.specs.Reading.{Fails};
 ghost use Rattle.sm_ruletext.specs.declared.statement.Statement.{Statement as TheStatement};
 ghost use Rattle.sm_types.specs.Names.{at};
 ghost use Rattle.sm_types.specs.Declaring.{is_memory, symbols_of, is_declared, all_declared, UnlessMemory};
@@ -18,8 +18,8 @@ use crate::TypesFault;
 use crate::members::members_of;
 use crate::symbols::{Symbols, symbols_of};
 use sm_bits::BitRow;
-use sm_kinds::{Names, drop_fields};
 use sm_ruletext::{Set, Statement};
+use sm_values::{Names, drop_fields};
 use std::alloc::{AllocError, Global};
 
 /// The types of a policy source, and for each attribute the row of its members.

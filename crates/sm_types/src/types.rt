@@ -4,7 +4,7 @@ ghost use Rattle.std.specs.Prelude.{◌≡◌, ◌<◌, ◌≤◌, ◌+◌, ◌/
 ghost use Rattle.std.specs.Prelude.{IfErr, IfSome, Some, is_some, nat_eq, false, true};
 ghost use Rattle.std.specs.Str.{bytes_eq};
 ghost use Rattle.sm_bits.specs.Bits.{has, row};
-ghost use Rattle.sm_kinds.specs.Reading.{Fails};
+ghost use Rattle.sm_values.specs.Reading.{Fails};
 ghost use Rattle.sm_ruletext.specs.declared.statement.Statement.{Statement as TheStatement};
 ghost use Rattle.sm_types.specs.Names.{at, is_at};
 ghost use Rattle.sm_types.specs.Declaring.{is_memory, symbols_of, UnlessMemory};

@@ -1,8 +1,8 @@
 //! What a policy is without its unused rules, as laws.
 
 ghost use Rattle.std.specs.Prelude.{◌≡◌, ℕ, List};
-ghost use Rattle.sm_kinds.specs.declared.class.Class.{Class as TheClass};
-ghost use Rattle.sm_kinds.specs.declared.perms.Perms.{Perms as ThePerms};
+ghost use Rattle.sm_values.specs.declared.class.Class.{Class as TheClass};
+ghost use Rattle.sm_values.specs.declared.perms.Perms.{Perms as ThePerms};
 ghost use Rattle.sm_policy.specs.Policy.{Policy as ThePolicy, decision, written_at};
 ghost use Rattle.sm_unused.specs.Removal.{Keep, KeepsUsed, kept};
 

@@ -8,9 +8,9 @@ ghost use Rattle.sm_unused.specs.Missing.{IsTable, is_missing};
 
 use crate::pairs::Pairs;
 use sm_bits::{BitRow, SharedSet};
-use sm_kinds::drop_fields;
 use sm_rules::{Kept, PERM_COUNT, has_perm};
 use sm_types::TypeCount;
+use sm_values::drop_fields;
 use std::alloc::{AllocError, Global};
 
 /// Returns the row of a set.

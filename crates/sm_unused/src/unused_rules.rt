@@ -7,8 +7,8 @@ ghost use Rattle.sm_unused.specs.Missing.{AreMissing};
 ghost use Rattle.sm_unused.specs.Unused as spec;
 
 use crate::missing::Missing;
-use sm_kinds::drop_fields;
 use sm_policy::Prepared;
+use sm_values::drop_fields;
 use std::alloc::{AllocError, Global};
 
 /// The lines of the rules that are of no use, in the order of the source.

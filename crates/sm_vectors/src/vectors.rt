@@ -6,10 +6,10 @@ ghost use Rattle.sm_bits.specs.Bits.{has};
 use crate::Decision;
 use crate::source_row::{rows_alike, source_row};
 use sm_bits::BitRow;
-use sm_kinds::{Class, Perms, drop_fields};
 use sm_neverallow::Matrices;
 use sm_rules::{Rules, number_of};
 use sm_types::TypeCount;
+use sm_values::{Class, Perms, drop_fields};
 use std::alloc::{AllocError, Global};
 use std::marker::Model;
 

@@ -2,7 +2,7 @@
 use Rattle.std.proofs.Common.{inl, inr, ◌≡◌, ◌⊎◌, ℕ, List, [], ◌∷◌, Option, None, Some, refl, sym, ap, ◌∙◌, slice_get}
 use Rattle.std.proofs.Common.{Ok, Err}
 use Rattle.std.specs.Prelude.{Result}
-use Rattle.sm_kinds.specs.Reading.{◌>>=◌}
+use Rattle.sm_values.specs.Reading.{◌>>=◌}
 use Rattle.sm_ruletext.specs.declared.fault.RuleTextFault.{RuleTextFault}
 use Rattle.sm_ruletext.specs.declared.fault.RuleTextFault.TheVariants as text
 use Rattle.sm_ruletext.specs.declared.statement.Statement.{Statement}

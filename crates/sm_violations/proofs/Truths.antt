@@ -2,8 +2,8 @@
 use Rattle.std.proofs.Common.{◌≡◌, ℕ, ◌<◌, Bool, true, false, ◌&&◌, List, [], ◌∷◌, length, Option, None, Some, refl}
 use Rattle.std.proofs.Common.{sym, ap, ◌∙◌, arith, slice_get, Result, Ok, Err, cond}
 use Rattle.std.proofs.lemmas.Option.{slice_get-get_or}
-use Rattle.sm_kinds.specs.Reading.{◌>>=◌}
-use Rattle.sm_kinds.proofs.Readers.{went_well}
+use Rattle.sm_values.specs.Reading.{◌>>=◌}
+use Rattle.sm_values.proofs.Readers.{went_well}
 use Rattle.sm_ruletext.specs.declared.rule.Rule.{Rule}
 use Rattle.sm_ruletext.specs.declared.statement.RuleKind.TheVariants.{Allow, Neverallow}
 use Rattle.sm_ruletext.specs.declared.statement.Statement.{Statement}

@@ -1,7 +1,7 @@
 -- All violations of a policy source.
 use Rattle.std.specs.Prelude.{ℕ, List, [], ◌∷◌, ◌++◌, drop, Ok}
 use Rattle.std.specs.List.{filter_map, flat_map}
-use Rattle.sm_kinds.specs.Reading.{◌>>=◌}
+use Rattle.sm_values.specs.Reading.{◌>>=◌}
 use Rattle.sm_ruletext.specs.declared.rule.Rule.{Rule}
 use Rattle.sm_ruletext.specs.declared.statement.RuleKind.TheVariants.{Allow, Neverallow}
 use Rattle.sm_ruletext.specs.declared.statement.Statement.{Statement}

@@ -11,12 +11,12 @@ ghost use Rattle.sm_violations.specs.Finding.{AreApartFrom, IsEnd, IsFirstFrom, 
 
 use crate::bounds::{Bounds, all_bounds, may_be_broken};
 use crate::clash::clash;
-use sm_kinds::{Name, drop_fields};
 use sm_neverallow::{Matrices, NumberedViolation};
 use sm_policy::{PolicyFault, Violation};
 use sm_rules::{Kept, Rules};
 use sm_ruletext::Statement;
 use sm_types::{TypeCount, Types};
+use sm_values::{Name, drop_fields};
 use std::alloc::{AllocError, Global};
 use std::marker::Model;
 use std::snapshot::Snapshot;
@@ -170,7 +170,7 @@ impl Model for Violations {
 
 impl Violations {
     ghost use Rattle.std.specs.Prelude.{◌≡◌, ◌++◌, [], IfOk, IfNone, OnErr, option_to_list};
-    ghost use Rattle.sm_kinds.specs.Reading.{Gives};
+    ghost use Rattle.sm_values.specs.Reading.{Gives};
     ghost use Rattle.sm_policy.specs.Preparing.{is_memory};
     ghost use Rattle.sm_violations.specs.Listing.{violations_in};
 

@@ -9,7 +9,7 @@ use Rattle.std.specs.Str.{bytes_eq}
 use Rattle.std.proofs.lemmas.Bool.Decides.{nat_tests}
 use Rattle.std.specs.Prelude.{◌==◌, cond, IsTrue}
 use Rattle.std.specs.List.{list_all, onto_first}
-use Rattle.sm_kinds.specs.Contexts.{is_graphic}
+use Rattle.sm_values.specs.Contexts.{is_graphic}
 use Rattle.sm_wire.specs.Fields.{fields_of, first_is, is_spaceless}
 use Rattle.sm_wire.specs.Grammar.{has_fields}
 

@@ -1,7 +1,7 @@
 -- Lines of a table, if the first field isn't the word of one of them.
 use Rattle.std.proofs.Common.{◌≡◌, ℕ, List, [], ◌∷◌, Option, None, false, refl, ap, ◌∙◌, codes, if◌then◌else◌}
 use Rattle.std.specs.Str.{bytes_eq}
-use Rattle.sm_kinds.specs.declared.number.ClientId.{ClientId}
+use Rattle.sm_values.specs.declared.number.ClientId.{ClientId}
 use Rattle.sm_wire.specs.LineTable.{Production, get_line, check_line, list_line, version_line, call_line}
 use Rattle.sm_wire.specs.LineTable.{release_line, take_line, add_line, hello_line, client_lines, rare_lines}
 use Rattle.sm_wire.specs.LineTable.{connection_lines}

@@ -8,8 +8,8 @@ use Rattle.std.proofs.Math.Seq.{drop-append_seam}
 use Rattle.std.proofs.lemmas.Bool.{cases_eq, and_parts}
 use Rattle.std.proofs.lemmas.Bool.Decides.{nat_tests}
 use Rattle.std.proofs.lemmas.Option.{same_Some, none-some}
-use Rattle.sm_kinds.specs.Contexts.{is_graphic, is_in_part, is_context, is_type_and_range, ends_well, ends_behind_role}
-use Rattle.sm_kinds.specs.Contexts.{after_part}
+use Rattle.sm_values.specs.Contexts.{is_graphic, is_in_part, is_context, is_type_and_range, ends_well, ends_behind_role}
+use Rattle.sm_values.specs.Contexts.{after_part}
 use Rattle.sm_wire.specs.FieldSpelling.{IsPart, IsContext}
 use Rattle.sm_wire.proofs.SpellingLemmasFields.{graphic_all, all_graphic}
 

@@ -21,10 +21,10 @@ use Rattle.hex.specs.declared.error.FromHexError.{FromHexError}
 use Rattle.hex.specs.declared.error.FromHexError.TheVariants.{OddLength}
 use Rattle.hex.specs.Hex as hexes
 use Rattle.hex.proofs.HexLemmas.{decode_of-even}
-use Rattle.sm_kinds.specs.declared.limits.TheConstants.{MOST_PAYLOAD_BYTES, MOST_REFS}
-use Rattle.sm_kinds.specs.declared.number.ObjRef.{ObjRef}
-use Rattle.sm_kinds.specs.declared.number.ObjRef.TheVariants.{Own, Handle, Null}
-use Rattle.sm_kinds.specs.Contexts.{is_graphic, is_context, ends_behind_role, after_part}
+use Rattle.sm_values.specs.declared.limits.TheConstants.{MOST_PAYLOAD_BYTES, MOST_REFS}
+use Rattle.sm_values.specs.declared.number.ObjRef.{ObjRef}
+use Rattle.sm_values.specs.declared.number.ObjRef.TheVariants.{Own, Handle, Null}
+use Rattle.sm_values.specs.Contexts.{is_graphic, is_context, ends_behind_role, after_part}
 use Rattle.sm_ruletext.specs.Lexing.{is_word, is_word_byte}
 use Rattle.sm_wire.specs.Number.{u32_max, u64_max, parsed_number}
 use Rattle.sm_wire.specs.Values.{plain_name_of, name_of, reference_of, own_object_of, own_number, references_of}

@@ -1,8 +1,8 @@
 -- Valid names are written as they are.
 use Rattle.std.proofs.Common.{◌≡◌, ℕ, true, List, [], ◌∷◌, refl, arith}
 use Rattle.std.specs.List.{flat_map, list_all}
-use Rattle.sm_kinds.specs.Names.{is_valid_name}
-use Rattle.sm_kinds.specs.Messages.{name_text}
+use Rattle.sm_values.specs.Names.{is_valid_name}
+use Rattle.sm_values.specs.Messages.{name_text}
 use Rattle.sm_history.specs.NameLists.{spaced}
 use Rattle.sm_wire.specs.Replies.{spaced_name}
 

@@ -4,11 +4,11 @@ use Rattle.std.specs.Prelude.{◌∷◌, ◌++◌}
 use Rattle.std.specs.Fmt.{decimal}
 use Rattle.std.specs.Int.{IsInRange}
 use Rattle.std.specs.List.{AllByRecursion, join_with_byte}
-use Rattle.sm_kinds.specs.declared.class.Class.{Class, TheVariants.ServiceManager, TheVariants.Binder}
-use Rattle.sm_kinds.specs.declared.limits.TheConstants.{MOST_PAYLOAD_BYTES}
-use Rattle.sm_kinds.specs.declared.number.ObjRef.{ObjRef, TheVariants.Own, TheVariants.Handle, TheVariants.Null}
-use Rattle.sm_kinds.specs.declared.perms.Perms.{Perms}
-use Rattle.sm_kinds.specs.Permissions.{bit}
+use Rattle.sm_values.specs.declared.class.Class.{Class, TheVariants.ServiceManager, TheVariants.Binder}
+use Rattle.sm_values.specs.declared.limits.TheConstants.{MOST_PAYLOAD_BYTES}
+use Rattle.sm_values.specs.declared.number.ObjRef.{ObjRef, TheVariants.Own, TheVariants.Handle, TheVariants.Null}
+use Rattle.sm_values.specs.declared.perms.Perms.{Perms}
+use Rattle.sm_values.specs.Permissions.{bit}
 use Rattle.sm_wire.specs.Number.{u32_max}
 
 -- A number of at most max is spelled by its decimal digits, without leading zeros.

@@ -1,7 +1,7 @@
 -- The request lines, as functions.
 use Rattle.std.specs.Prelude.{ℕ, Bool, true, false, List, [], ◌∷◌, Option, Some, None, if◌then◌else◌}
 use Rattle.std.specs.Str.{bytes_eq}
-use Rattle.sm_kinds.specs.Permissions.{class_read}
+use Rattle.sm_values.specs.Permissions.{class_read}
 use Rattle.sm_wire.specs.declared.request.Request.{Request}
 use Rattle.sm_wire.specs.declared.request.Request.TheVariants.{Hello, Change, Look, Reload, Denials, Seal}
 use Rattle.sm_wire.specs.declared.reload_header.ReloadHeader.{ReloadHeader}

@@ -1,9 +1,9 @@
 -- The request lines, as tables: the word of a line, the kinds of the fields behind it, and its request.
 use Rattle.std.specs.Prelude.{ℕ, Bool, true, false, codes, List, [], ◌∷◌, Option, None}
-use Rattle.sm_kinds.specs.declared.class.Class.{Class}
-use Rattle.sm_kinds.specs.declared.number.ClientId.{ClientId}
-use Rattle.sm_kinds.specs.declared.number.ObjRef.{ObjRef}
-use Rattle.sm_kinds.specs.declared.perms.Perms.{Perms}
+use Rattle.sm_values.specs.declared.class.Class.{Class}
+use Rattle.sm_values.specs.declared.number.ClientId.{ClientId}
+use Rattle.sm_values.specs.declared.number.ObjRef.{ObjRef}
+use Rattle.sm_values.specs.declared.perms.Perms.{Perms}
 use Rattle.sm_history.specs.declared.event.Event.TheVariants.{Add, Get, Watch, Unwatch, Unregister, Call, Release}
 use Rattle.sm_history.specs.declared.event.Event.TheVariants.{Take, Die}
 use Rattle.sm_history.specs.declared.query.Query.TheVariants as queries

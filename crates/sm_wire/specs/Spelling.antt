@@ -2,8 +2,8 @@
 use Rattle.std.specs.Prelude.{◌≡◌, ◌≤◌, ◌⊎◌, ℕ, Bool, true, false, IsTrue, length, List, [], ◌∷◌, Some}
 use Rattle.std.specs.Prelude.{Result, Ok, Err}
 use Rattle.std.specs.List.{join_with_byte}
-use Rattle.sm_kinds.specs.declared.limits.TheConstants.{MOST_REFS}
-use Rattle.sm_kinds.specs.declared.number.ObjRef.{ObjRef, TheVariants.Own}
+use Rattle.sm_values.specs.declared.limits.TheConstants.{MOST_REFS}
+use Rattle.sm_values.specs.declared.number.ObjRef.{ObjRef, TheVariants.Own}
 use Rattle.sm_ruletext.specs.Lexing.{is_word}
 use Rattle.sm_wire.specs.declared.read_error.ReadError.{ReadError, TheVariants.Malformed, TheVariants.Memory}
 use Rattle.sm_wire.specs.declared.request.Request.{Request}

@@ -5,12 +5,12 @@ use Rattle.std.specs.List.{list_all}
 use Rattle.std.specs.Result.{result_ok}
 use Rattle.std.specs.Str.{bytes_eq}
 use Rattle.hex.specs.Hex.{decode_of}
-use Rattle.sm_kinds.specs.declared.limits.TheConstants.{MOST_PAYLOAD_BYTES, MOST_REFS}
-use Rattle.sm_kinds.specs.declared.number.ObjRef.{ObjRef, TheVariants.Own, TheVariants.Handle, TheVariants.Null}
-use Rattle.sm_kinds.specs.declared.class.Class.TheVariants.{ServiceManager, Binder}
-use Rattle.sm_kinds.specs.declared.perms.Perms.{Perms}
-use Rattle.sm_kinds.specs.Contexts.{is_graphic, is_context}
-use Rattle.sm_kinds.specs.Permissions.{perm_read}
+use Rattle.sm_values.specs.declared.limits.TheConstants.{MOST_PAYLOAD_BYTES, MOST_REFS}
+use Rattle.sm_values.specs.declared.number.ObjRef.{ObjRef, TheVariants.Own, TheVariants.Handle, TheVariants.Null}
+use Rattle.sm_values.specs.declared.class.Class.TheVariants.{ServiceManager, Binder}
+use Rattle.sm_values.specs.declared.perms.Perms.{Perms}
+use Rattle.sm_values.specs.Contexts.{is_graphic, is_context}
+use Rattle.sm_values.specs.Permissions.{perm_read}
 use Rattle.sm_ruletext.specs.Lexing.{is_word}
 use Rattle.sm_wire.specs.Number.{u32_max, parsed_number}
 use Rattle.sm_wire.specs.Reading.{◌>>=◌, first_of_two}

@@ -19,7 +19,7 @@ use crate::values::{
     flag_field, name_field, own_object_field, payload_field, reference_field, reference_fields,
 };
 use sm_history::{Event, Query};
-use sm_kinds::{ClientId, spells};
+use sm_values::{ClientId, spells};
 
 /// Reads a query or a change of a client. The words that come most often are compared first.
 #[tactic(auto, using(crate::proofs::LineLemmas::rare_lines_left), unfolding(crate::specs::Grammar::lines_of, crate::specs::Grammar::parsed_by))]

@@ -2,7 +2,7 @@
 
 ghost use Rattle.std.specs.Prelude.{◌≡◌, ◌++◌, ◌+◌, ◌<◌, OnOk};
 ghost use Rattle.std.specs.Fmt.{decimal};
-ghost use Rattle.sm_kinds.specs.Messages.{numbered};
+ghost use Rattle.sm_values.specs.Messages.{numbered};
 
 use std::alloc::AllocError;
 
@@ -35,7 +35,7 @@ pub fn push_decimal(out: &mut Vec<u8>, n: u64) -> Result<(), AllocError>
     ensures { OnOk result (out.new.items ≡ out.old.items ++ decimal n) }
 {
     if n >= 10_000 {
-        return sm_kinds::push_numbered(out, b"", n);
+        return sm_values::push_numbered(out, b"", n);
     }
     let n = n as u32;
     if n < 10 {

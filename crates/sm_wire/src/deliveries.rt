@@ -5,12 +5,12 @@ ghost use Rattle.std.specs.List.{flat_map};
 ghost use Rattle.sm_wire.specs.Replies.{spaced_given, payload_text, caller_text, registered_text};
 ghost use Rattle.sm_wire.specs.Replies.{message_text};
 ghost use Rattle.hex.specs.Hex.{encode_lower};
-ghost use Rattle.sm_kinds.specs.declared.limits.TheConstants.{MOST_PAYLOAD_BYTES};
+ghost use Rattle.sm_values.specs.declared.limits.TheConstants.{MOST_PAYLOAD_BYTES};
 
 use crate::decimals::push_numbered;
 use crate::names::push_spaced_name;
 use sm_history::{Delivery, Given, Message};
-use sm_kinds::Payload;
+use sm_values::Payload;
 use std::alloc::{AllocError, Global};
 
 /// Appends the words of a delivery.

@@ -5,7 +5,7 @@ ghost use Rattle.sm_wire.specs.Replies.{denials_text};
 
 use sm_audit::push_lines;
 use sm_history::Record;
-use sm_kinds::push_numbered;
+use sm_values::push_numbered;
 use std::alloc::{AllocError, Global};
 
 /// Appends the reply to `denials`: a line with the number of the records, and then the audit line of each, in their

@@ -17,7 +17,7 @@ use crate::reload_header::reload;
 use crate::request::Request;
 use crate::values::{class_field, context_field, perm_field, word_field};
 use sm_history::Query;
-use sm_kinds::{ClientId, Identity, spells};
+use sm_values::{ClientId, Identity, spells};
 use std::alloc::Global;
 
 /// Parses a line of this kind. The line has no newline.

@@ -12,7 +12,7 @@ use crate::framing::{end_stream, whole_item};
 use crate::item::Item;
 use crate::kind::Kind;
 use crate::recent_names::RecentNames;
-use sm_kinds::drop_fields;
+use sm_values::drop_fields;
 use std::alloc::{AllocError, Global};
 use std::marker::Model;
 

@@ -5,7 +5,7 @@ ghost use Rattle.std.specs.List.{flat_map};
 ghost use Rattle.sm_wire.specs.Replies.{spaced_name};
 
 use sm_history::NameList;
-use sm_kinds::push_name;
+use sm_values::push_name;
 use std::alloc::{AllocError, Global};
 
 /// Appends each name after a space. If all are valid, their bytes are appended at once.

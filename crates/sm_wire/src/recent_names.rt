@@ -2,14 +2,14 @@
 
 ghost use Rattle.std.specs.Prelude.{◌≡◌, ◌∷◌, [], true, Some, IfSome, IsTrue};
 ghost use Rattle.std.specs.List.{list_all};
-ghost use Rattle.sm_kinds.specs.Contexts.{is_graphic};
+ghost use Rattle.sm_values.specs.Contexts.{is_graphic};
 ghost use Rattle.sm_wire.specs.Reading.{ReadsAs};
 ghost use Rattle.sm_wire.specs.Values.{name_of, plain_name_of};
 ghost use Rattle.sm_wire.specs.Fields.{fields_of};
 ghost use Rattle.sm_wire.specs.Names.{HasEnds};
 
 use crate::read_error::ReadError;
-use sm_kinds::{MOST_NAME_BYTES, Name, all_graphic, drop_fields, spells};
+use sm_values::{MOST_NAME_BYTES, Name, all_graphic, drop_fields, spells};
 use std::alloc::{AllocError, Global};
 use std::marker::Model;
 

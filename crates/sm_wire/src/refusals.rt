@@ -4,7 +4,7 @@ ghost use Rattle.std.specs.Prelude.{◌≡◌, ◌++◌, OnOk, codes};
 ghost use Rattle.sm_wire.specs.Replies.{exception_text, failure_text, denied_by, rule_text, denial_text, refusal_text};
 
 use sm_history::{Denial, Exception, Failure, Refusal};
-use sm_kinds::{Class, Perms, push_access, push_numbered};
+use sm_values::{Class, Perms, push_access, push_numbered};
 use std::alloc::AllocError;
 
 /// Appends the words of a refusal.

@@ -1,7 +1,7 @@
 //! Reply lines.
 
 ghost use Rattle.std.specs.Prelude.{◌≡◌, ◌++◌, OnOk, IfOk, codes};
-ghost use Rattle.sm_kinds.specs.Messages.{numbered};
+ghost use Rattle.sm_values.specs.Messages.{numbered};
 ghost use Rattle.sm_wire.specs.Replies.{message_text, names_text, outcome_text, refusal_text, sealed_text, why_text, answer_text};
 ghost use Rattle.sm_wire.specs.Replies.{told_text, told_in};
 

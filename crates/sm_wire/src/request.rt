@@ -12,7 +12,7 @@ use crate::kind::Kind;
 use crate::read_error::ReadError;
 use crate::telling::Telling;
 use sm_history::{Event, Query};
-use sm_kinds::{ClientId, Identity};
+use sm_values::{ClientId, Identity};
 use std::alloc::Global;
 
 /// The request of a line.

@@ -1,6 +1,6 @@
 //! The files after a `reload` line.
 
-use sm_kinds::drop_fields;
+use sm_values::drop_fields;
 use std::marker::Model;
 
 /// A `reload` line with the files that follow it.

@@ -2,7 +2,7 @@
 
 ghost use Rattle.std.specs.Result.{result_ok, result_map_both};
 ghost use Rattle.hex.specs.Hex.{decode_of};
-ghost use Rattle.sm_kinds.specs.Permissions.{class_read};
+ghost use Rattle.sm_values.specs.Permissions.{class_read};
 ghost use Rattle.sm_wire.specs.Reading.{ReadsAs};
 ghost use Rattle.sm_wire.specs.Values.{name_of, reference_of, own_object_of, call_references_of};
 ghost use Rattle.sm_wire.specs.Values.{fitting_payload, fitting_references, hex_payload_of, payload_of, flag_of};
@@ -13,10 +13,10 @@ use crate::numbers::u32_field;
 use crate::read_error::ReadError;
 use crate::recent_names::RecentNames;
 use hex::FromHexError;
-use sm_kinds::{
+use sm_ruletext::is_word;
+use sm_values::{
     Class, Context, ContextError, Name, ObjRef, Payload, PayloadError, Perms, Refs, RefsError,
 };
-use sm_ruletext::is_word;
 use std::alloc::Global;
 
 /// The number of references for which memory is taken before a call's references are read.

@@ -10,13 +10,13 @@ use sm_command::{
     TargetWord, unknown_line,
 };
 use sm_engine::{Counted, Fault, write_whole};
-use sm_kinds::Word;
 use sm_policy::{PolicyFault, Prepared};
 use sm_questions::{
     FilterOptions, RuleOptions, Target, Unknown, access, diff, explain, label, read_access,
     read_filter, read_rule_filter, refused_line, rules,
 };
 use sm_unused::unused;
+use sm_values::Word;
 use std::process::ExitCode;
 
 /// The status of a question that has no answer.

@@ -3,8 +3,8 @@
 use libc::STDERR_FILENO;
 use libc::net::{POLLOUT, poll};
 use libc::types::pollfd;
-use sm_kinds::drop_fields;
 use sm_serve::ServerLog;
+use sm_values::drop_fields;
 use std::io::{self, ErrorKind, Write};
 use std::sync::Wait;
 

@@ -1,7 +1,7 @@
 //! The checks of allow rules that events make.
 
 ghost use Rattle.std.specs.Prelude.{◌≡◌, None, Some};
-ghost use Rattle.sm_kinds.specs.declared.class.Class.TheVariants.{Binder, ServiceManager};
+ghost use Rattle.sm_values.specs.declared.class.Class.TheVariants.{Binder, ServiceManager};
 ghost use Rattle.sm_history.specs.Clients.{manager_at, label_at};
 ghost use Rattle.sm_core.specs.Judging.{IsRuled};
 ghost use Rattle.sm_core.specs.Tables.{process_at, IsLabel};
@@ -12,8 +12,8 @@ use crate::ledger::Ledger;
 use crate::process::Process;
 use crate::refusing::Checked;
 use sm_history::Record;
-use sm_kinds::{Class, Name, Perms};
 use sm_policy::Label;
+use sm_values::{Class, Name, Perms};
 
 impl Ledger {
     /// Returns what checks read now.

@@ -17,8 +17,8 @@ use crate::draft::Draft;
 use crate::ledger::Ledger;
 use crate::refusing::{Checked, excepted, failed};
 use sm_history::{Denial, Effect, Exception, Failure, Outcome, Record, Service};
-use sm_kinds::{Name, Node, ObjRef, Perms, is_barred_app, valid_name};
 use sm_policy::Label;
+use sm_values::{Name, Node, ObjRef, Perms, is_barred_app, valid_name};
 
 impl Ledger {
     /// Judges the registration of a service (`addService`).

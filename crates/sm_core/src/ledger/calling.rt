@@ -2,7 +2,7 @@
 
 ghost use Rattle.std.specs.Prelude.{◌≡◌, ◌≤◌, ◌&&◌, ◌++◌, true, length, take, [], Some, IfOk, OnOk, MatchResult, false, is_some};
 ghost use Rattle.std.specs.Prelude.{IsTrue};
-ghost use Rattle.sm_kinds.specs.declared.limits.TheConstants.{MOST_REFS};
+ghost use Rattle.sm_values.specs.declared.limits.TheConstants.{MOST_REFS};
 ghost use Rattle.sm_history.specs.declared.delivery.Message.TheVariants.{Called};
 ghost use Rattle.sm_history.specs.declared.event.Event.TheVariants.{Call};
 ghost use Rattle.sm_history.specs.Clients.{is_live};
@@ -25,7 +25,7 @@ use arrayvec::ArrayVec;
 use sm_history::{
     Delivery, Effect, Failure, Given, GivenRefs, Message, Outcome, Record, Refusal, Reply, Shared,
 };
-use sm_kinds::{Class, ClientId, Identity, MOST_REFS, Node, ObjRef, Payload, Perms, Refs};
+use sm_values::{Class, ClientId, Identity, MOST_REFS, Node, ObjRef, Payload, Perms, Refs};
 use std::alloc::{AllocError, Global};
 
 /// Puts the objects that a receiver doesn't own, for which it needs handles, first in an array. Returns their number.

@@ -7,7 +7,7 @@ use crate::draft::Draft;
 use crate::ledger::Ledger;
 use crate::refusing::Checked;
 use sm_history::{Effect, LAST_CLIENT, MOST_CLIENTS, Outcome, Refusal, Reply};
-use sm_kinds::{ClientId, Identity};
+use sm_values::{ClientId, Identity};
 
 impl Ledger {
     /// Judges a process that connects.

@@ -13,7 +13,7 @@ use crate::draft::Draft;
 use crate::ledger::Ledger;
 use crate::refusing::{Checked, failed};
 use sm_history::{Denial, Effect, Failure, Outcome, Record, Reply, Service};
-use sm_kinds::{Name, Perms, is_isolated};
+use sm_values::{Name, Perms, is_isolated};
 
 impl Ledger {
     /// Judges a client's request for the service of a name (`getService`, `checkService`).

@@ -22,8 +22,8 @@ use crate::refusing::{Checked, failed, reason};
 use sm_history::{
     Delivery, Effect, Failure, Given, Message, Notice, Notices, Record, Shared, Told, Watch,
 };
-use sm_kinds::{ClientId, Node, Perms};
 use sm_policy::Label;
+use sm_values::{ClientId, Node, Perms};
 use std::alloc::{AllocError, Global};
 
 /// Makes the notice for a watch.

@@ -13,9 +13,9 @@ use crate::turns::Turns;
 use sm_grants::Grants;
 use sm_history::{By, Entry, Event, Outcome};
 use sm_inbox::Inboxes;
-use sm_kinds::{Identity, Places};
 use sm_names::NameTable;
 use sm_policy::Prepared;
+use sm_values::{Identity, Places};
 use std::alloc::{AllocError, Global};
 
 impl Ledger {

@@ -10,7 +10,7 @@ use crate::draft::Draft;
 use crate::ledger::Ledger;
 use crate::refusing::{Checked, failed};
 use sm_history::{Effect, Failure, Outcome};
-use sm_kinds::ObjRef;
+use sm_values::ObjRef;
 
 impl Ledger {
     /// Judges a release of one grant of a handle. The last release frees the number.

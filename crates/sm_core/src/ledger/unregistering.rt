@@ -13,7 +13,7 @@ use crate::draft::Draft;
 use crate::ledger::Ledger;
 use crate::refusing::{Checked, excepted};
 use sm_history::{Effect, Exception, Outcome, Record};
-use sm_kinds::{Name, Node, ObjRef, Perms};
+use sm_values::{Name, Node, ObjRef, Perms};
 
 impl Ledger {
     /// Judges the removal of a service by the client that added it (`tryUnregisterService`).

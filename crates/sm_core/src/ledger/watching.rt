@@ -17,7 +17,7 @@ use crate::draft::Draft;
 use crate::ledger::Ledger;
 use crate::refusing::{Checked, excepted};
 use sm_history::{Denial, Effect, Exception, MOST_WATCHES, Outcome, Record, Watch, WatchPair};
-use sm_kinds::{Name, Perms, is_isolated, valid_name};
+use sm_values::{Name, Perms, is_isolated, valid_name};
 use std::alloc::AllocError;
 
 /// Makes the watch of a name by a client's object.

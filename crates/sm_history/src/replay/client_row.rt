@@ -5,7 +5,7 @@ ghost use Rattle.sm_history.specs.Tables.{slot, IsPut, given_slot, released_slot
 
 use crate::delivery::Delivery;
 use crate::shared::Shared;
-use sm_kinds::{Identity, Node, drop_fields};
+use sm_values::{Identity, Node, drop_fields};
 use std::alloc::AllocError;
 
 /// An object that a client holds, and the number of grants that it hasn't released.

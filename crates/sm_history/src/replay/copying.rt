@@ -10,8 +10,8 @@ use crate::replay::client_row::{ClientRow, Held};
 use crate::replay::named_row::NamedRow;
 use crate::replay::tables::Tables;
 use crate::shared::Shared;
-use sm_kinds::Identity;
 use sm_policy::Prepared;
+use sm_values::Identity;
 use std::alloc::{AllocError, Global};
 
 fn slots_of(alloc: Global, slots: &[Option<Held>]) -> Result<Vec<Option<Held>>, AllocError>

@@ -2,7 +2,7 @@
 
 ghost use Rattle.std.specs.Prelude.{slice_get, ◌≡◌, ◌∷◌, ◌<◌, true, ℕ, List, Some, OnOk};
 ghost use Rattle.std.specs.List.{list_all};
-ghost use Rattle.sm_kinds.specs.declared.number.Node.{Node};
+ghost use Rattle.sm_values.specs.declared.number.Node.{Node};
 ghost use Rattle.sm_history.specs.declared.effect.Watch.{Watch};
 ghost use Rattle.sm_history.specs.declared.outcome.Outcome.{Outcome};
 ghost use Rattle.sm_history.specs.declared.event.Event.TheVariants.{Open, Connect, Add, Get, Watch as WatchName, Call};
@@ -26,8 +26,8 @@ use crate::replay::client_row::{client_index, held_under};
 use crate::replay::named_row::service_in;
 use crate::replay::tables::Tables;
 use crate::service::Service;
-use sm_kinds::{ClientId, Identity, Name, Node, ObjRef, Payload, Refs};
 use sm_policy::Prepared;
+use sm_values::{ClientId, Identity, Name, Node, ObjRef, Payload, Refs};
 use std::alloc::AllocError;
 
 /// Returns the object that was found; an earlier check has made sure that there is one.

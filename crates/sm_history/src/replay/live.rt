@@ -1,7 +1,7 @@
 //! The rows of the live clients.
 
 ghost use Rattle.std.specs.Prelude.{◌≡◌, ◌∷◌, true, drop, Some, OnOk};
-ghost use Rattle.sm_kinds.specs.declared.number.Node.{Node};
+ghost use Rattle.sm_values.specs.declared.number.Node.{Node};
 ghost use Rattle.sm_history.specs.declared.effect.Effect.TheVariants.{Connects, Delivers, Dies, Gives, Releases, Takes};
 ghost use Rattle.sm_history.specs.Effects.{Effects};
 ghost use Rattle.sm_history.specs.Clients.{is_live};
@@ -13,7 +13,7 @@ ghost use Rattle.sm_history.specs.Tables.{TracksClients};
 use crate::delivery::Delivery;
 use crate::replay::client_row::{ClientRow, client_index, give, release};
 use crate::shared::Shared;
-use sm_kinds::{Identity, Node};
+use sm_values::{Identity, Node};
 use std::alloc::{AllocError, Global};
 
 /// Adds a new client's row. Returns an error if an allocation fails.

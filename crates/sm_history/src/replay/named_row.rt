@@ -10,7 +10,7 @@ ghost use Rattle.sm_history.specs.Rising.{IsRising};
 ghost use Rattle.sm_history.specs.Tables.{names_of, IsNamePlace, IsNameGap, TracksNames};
 
 use crate::service::Service;
-use sm_kinds::{Name, drop_fields};
+use sm_values::{Name, drop_fields};
 use std::alloc::AllocError;
 
 /// A name and its service.

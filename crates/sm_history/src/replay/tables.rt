@@ -1,7 +1,7 @@
 //! The tables of a replay.
 
 ghost use Rattle.std.specs.Prelude.{◌≡◌, ◌∷◌, ◌<◌, true, ℕ, Some, [], map, filter, not, ◌==◌, ◌++◌, OnOk};
-ghost use Rattle.sm_kinds.specs.declared.number.Node.{Node};
+ghost use Rattle.sm_values.specs.declared.number.Node.{Node};
 ghost use Rattle.sm_history.specs.declared.limits.TheConstants.{GREATEST};
 ghost use Rattle.sm_history.specs.declared.effect.Effect.TheVariants.{Adds, Connects, Delivers, Dies, Gives, Opens};
 ghost use Rattle.sm_history.specs.declared.effect.Effect.TheVariants.{Releases, Removes, Sets, Takes, Unwatches};
@@ -22,8 +22,8 @@ use crate::replay::live::{connect, deliver_to, give_to, release_of, remove_clien
 use crate::replay::named_row::{NamedRow, put_name, remove_name, remove_names};
 use crate::service::Service;
 use crate::shared::Shared;
-use sm_kinds::{Identity, Name, Node, drop_fields};
 use sm_policy::Prepared;
+use sm_values::{Identity, Name, Node, drop_fields};
 use std::alloc::{AllocError, Global};
 
 /// The tables that effects leave.

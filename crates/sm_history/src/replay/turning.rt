@@ -13,7 +13,7 @@ ghost use Rattle.sm_history.specs.Turning.{with_order};
 use crate::by::By;
 use crate::replay::client_row::ClientRow;
 use crate::turn::TurnRow;
-use sm_kinds::{AdminId, ClientId, drop_fields};
+use sm_values::{AdminId, ClientId, drop_fields};
 use std::alloc::{AllocError, Global};
 use std::collections::HashMap;
 

@@ -4,9 +4,9 @@ use sm_core::Manager;
 use sm_history::{
     Answer, By, Event, Failure, Notice, Outcome, Query, Reason, Refusal, Reply, Told,
 };
-use sm_kinds::{AdminId, ClientId, Context, Identity, Name, ObjRef, Payload, Places, Refs};
 use sm_policy::Prepared;
 use sm_samples::{DEVICE_LABELS, DEVICE_RULES, stricter_rules};
+use sm_values::{AdminId, ClientId, Context, Identity, Name, ObjRef, Payload, Places, Refs};
 use std::alloc::Global;
 use std::process::Abort;
 

@@ -1,7 +1,7 @@
 //! What no contract says: that these calls give what they are called for.
 
 use sm_history::{Event, Outcome, Refusal, Reply, connected, died, installed, is_death, moves};
-use sm_kinds::ClientId;
+use sm_values::ClientId;
 use std::process::Abort;
 
 #[test]

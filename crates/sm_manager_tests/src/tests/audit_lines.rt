@@ -3,7 +3,7 @@
 use super::acts::{application, name};
 use sm_audit::{Ring, push_line, push_lines};
 use sm_history::{Denial, Record};
-use sm_kinds::{Class, Context, Perms};
+use sm_values::{Class, Context, Perms};
 use std::alloc::Global;
 use std::process::Abort;
 use std::test::*;

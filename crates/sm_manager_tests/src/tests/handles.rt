@@ -2,7 +2,7 @@
 
 use arrayvec::ArrayVec;
 use sm_grants::Grants;
-use sm_kinds::{ClientId, Node, ObjRef};
+use sm_values::{ClientId, Node, ObjRef};
 use std::process::Abort;
 use std::test::*;
 

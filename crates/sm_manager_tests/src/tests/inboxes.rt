@@ -2,7 +2,7 @@
 
 use sm_history::{Delivery, Given, Message, Shared};
 use sm_inbox::Inboxes;
-use sm_kinds::Name;
+use sm_values::Name;
 use std::alloc::Global;
 use std::process::Abort;
 use std::test::*;

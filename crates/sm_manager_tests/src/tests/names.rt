@@ -1,8 +1,8 @@
 //! The table of services and watches.
 
 use sm_history::{MOST_WATCHES, Service, Watch, WatchPair};
-use sm_kinds::{ClientId, Name, Node, push_numbered};
 use sm_names::NameTable;
+use sm_values::{ClientId, Name, Node, push_numbered};
 use std::alloc::{AllocError, Global};
 use std::process::Abort;
 use std::test::*;

@@ -8,8 +8,8 @@ use sm_history::{
     By, ClientRow, Delivery, Given, Held, Message, NamedRow, Refusal, Rows, Segment, Shared,
     TurnRow, Watch,
 };
-use sm_kinds::{Class, Identity, Perms};
 use sm_policy::Prepared;
+use sm_values::{Class, Identity, Perms};
 use std::alloc::Global;
 use std::process::Abort;
 

@@ -7,7 +7,7 @@ use super::acts::{
 use sm_audit::push_lines;
 use sm_core::Manager;
 use sm_history::{By, Entry, Notice, Query, Record};
-use sm_kinds::{AdminId, Class, Perms};
+use sm_values::{AdminId, Class, Perms};
 use std::alloc::Global;
 use std::mem::size_of;
 use std::process::Abort;

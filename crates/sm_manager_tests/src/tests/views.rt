@@ -4,7 +4,7 @@ ghost use Rattle.std.specs.Prelude.{◌≡◌};
 use super::acts::{ADMIN, Act, SERVER, Seen, event, opened, seen_of};
 use sm_core::{Manager, View};
 use sm_history::{By, Query};
-use sm_kinds::ClientId;
+use sm_values::ClientId;
 use std::alloc::Global;
 use std::process::Abort;
 

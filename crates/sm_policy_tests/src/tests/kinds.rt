@@ -1,6 +1,6 @@
 //! Numbers, names, contexts and permissions: values from their formats and limits.
 
-use sm_kinds::{
+use sm_values::{
     Class, Context, ContextError, Name, ObjRef, Payload, PayloadError, Perms, Places, Refs,
     RefsError, app_number, is_barred_app, is_isolated, push_access, push_numbered, valid_name,
 };

@@ -1,11 +1,11 @@
 //! The text of a fault is the words that a contract gives for its line.
 
 use sm_contexts::ContextsFault;
-use sm_kinds::{Class, Name, Perms};
 use sm_policy::{PolicyFault, Violation, refused_text};
 use sm_rules::RulesFault;
 use sm_ruletext::RuleTextFault;
 use sm_types::TypesFault;
+use sm_values::{Class, Name, Perms};
 use std::alloc::{AllocError, Global};
 use std::process::Abort;
 use std::test::Fail;

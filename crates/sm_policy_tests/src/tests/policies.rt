@@ -2,11 +2,11 @@
 
 use super::statements::{accepted, repeated};
 use sm_contexts::ContextsFault;
-use sm_kinds::{Class, Perms};
 use sm_policy::*;
 use sm_ruletext::RuleTextFault;
 use sm_samples::{DEVICE_LABELS, DEVICE_RULES, device_rules_with};
 use sm_types::TypesFault;
+use sm_values::{Class, Perms};
 use std::alloc::{AllocError, Global};
 use std::process::Abort;
 

@@ -1,7 +1,7 @@
 //! All violations of policy sources, in their order.
 
-use sm_kinds::push_numbered;
 use sm_policy::{PolicyFault, refused_text};
+use sm_values::push_numbered;
 use sm_violations::Violations;
 use std::alloc::{AllocError, Global};
 use std::process::Abort;

@@ -2,8 +2,8 @@
 
 use super::manager::{ADMIN, Call, SERVER, makes_all, prepared, process};
 use sm_history::{By, Event};
-use sm_kinds::{ClientId, Name, ObjRef, Payload, Refs};
 use sm_samples::stricter_rules;
+use sm_values::{ClientId, Name, ObjRef, Payload, Refs};
 use std::alloc::Global;
 use std::process::Abort;
 

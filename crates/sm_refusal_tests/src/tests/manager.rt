@@ -6,9 +6,9 @@ use super::events::{Step, activity, event_of};
 use super::outcome::same;
 use sm_core::{Manager, View};
 use sm_history::{Answer, By, Event, Outcome, Query, Record, Refusal, Reply, Segment};
-use sm_kinds::{AdminId, ClientId, Context, Identity, Name, Places};
 use sm_policy::{PolicyFault, Prepared};
 use sm_samples::{DEVICE_LABELS, DEVICE_RULES};
+use sm_values::{AdminId, ClientId, Context, Identity, Name, Places};
 use std::alloc::Global;
 use std::process::Abort;
 

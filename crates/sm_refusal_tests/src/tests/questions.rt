@@ -3,7 +3,6 @@
 use super::manager::prepared;
 use super::outcome::same_text;
 use sm_engine::{Counted, Fault};
-use sm_kinds::{Class, Perms, Word};
 use sm_policy::{PolicyFault, Prepared};
 use sm_questions::{
     FilterOptions, RuleOptions, Target, Unknown, access, all_shown_lines, check_all, diff, explain,
@@ -12,6 +11,7 @@ use sm_questions::{
 use sm_ruletext::RuleTextFault;
 use sm_samples::{BROKEN_RULE, DEVICE_LABELS, DEVICE_RULES, device_rules_with, stricter_rules};
 use sm_unused::unused;
+use sm_values::{Class, Perms, Word};
 use std::alloc::Global;
 use std::process::Abort;
 

@@ -7,8 +7,8 @@ use sm_history::{
     Delivery, Denial, Given, MOST_WATCHES, Message, Record, Service, Shared, WatchPair,
 };
 use sm_inbox::Inboxes;
-use sm_kinds::{ClientId, Context, Identity, Name, Node};
 use sm_names::NameTable;
+use sm_values::{ClientId, Context, Identity, Name, Node};
 use std::alloc::Global;
 use std::process::Abort;
 use std::test::*;

@@ -2,7 +2,7 @@
 
 use super::outcome::{same_text, value};
 use sm_history::{Event, Outcome, Reply};
-use sm_kinds::{Context, ContextError, Name, ObjRef, Payload, PayloadError, Refs, RefsError};
+use sm_values::{Context, ContextError, Name, ObjRef, Payload, PayloadError, Refs, RefsError};
 use sm_wire::{Item, Kind, LineReader, ReadError, Request, Telling, reply_line};
 use std::alloc::Global;
 use std::process::Abort;

@@ -3,10 +3,10 @@
 use super::fixture::{DEVICE, Files};
 use super::lines::same_lines;
 use sm_engine::{Counted, Fault};
-use sm_kinds::push_numbered;
 use sm_policy::Prepared;
 use sm_questions::{all_shown_lines, check, check_all};
 use sm_samples::{BROKEN_RULE, DEVICE_LABELS, DEVICE_RULES, FailAt, OneByte};
+use sm_values::push_numbered;
 use std::alloc::{AllocError, Global};
 use std::io::Write;
 use std::process::Abort;

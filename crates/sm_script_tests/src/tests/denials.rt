@@ -5,8 +5,8 @@ use super::lines::same_lines;
 use super::parts::Part::{self, Lines, Reload, Repeat};
 use super::parts::{A_HANDLE, A_SERVICE, Parts, push, said_of};
 use Step::{Ask, Denials, Hear};
-use sm_kinds::push_numbered;
 use sm_samples::{FIND_RULE, STRICTER_FIND_RULE, Said};
+use sm_values::push_numbered;
 use std::alloc::{AllocError, Global};
 use std::process::Abort;
 

@@ -3,10 +3,10 @@
 use sm_command::{Ending, unknown_line};
 use sm_engine::{Fault, ServeFault};
 use sm_history::{Denial, Refusal, Shared};
-use sm_kinds::{Class, Name, Perms, Word};
 use sm_policy::PolicyFault;
 use sm_questions::Unknown;
 use sm_script::ScriptFault;
+use sm_values::{Class, Name, Perms, Word};
 use std::alloc::{AllocError, Global};
 use std::io;
 use std::process::Abort;

@@ -3,9 +3,9 @@
 use super::lines::same_lines;
 use super::parts::{Parts, said_of};
 use sm_engine::{Counted, Fault};
-use sm_kinds::Places;
 use sm_samples::{DEVICE_LABELS, DEVICE_RULES, ONE_LABEL, PLAIN_RULES, RULE_FOR_DEFAULTS};
 use sm_script::{ScriptFault, run_script};
+use sm_values::Places;
 use std::alloc::Global;
 use std::io::{Read, Write};
 use std::process::Abort;

@@ -5,10 +5,10 @@ use super::parts::Part::{Bytes, Lines, Repeat};
 use super::parts::{A_HANDLE, ONE_CLIENT, Parts, said_of};
 use sm_engine::{Counted, Fault};
 use sm_history::{Denial, Refusal};
-use sm_kinds::{Class, Perms, Places};
 use sm_policy::PolicyFault;
 use sm_samples::DEVICE_LABELS;
 use sm_script::{ScriptFault, run_script};
+use sm_values::{Class, Perms, Places};
 use std::alloc::Global;
 use std::process::Abort;
 

@@ -1,8 +1,8 @@
 //! Scripts as tables of their parts.
 
 use super::fixture::Files;
-use sm_kinds::push_numbered;
 use sm_samples::{Said, Talk};
+use sm_values::push_numbered;
 use std::alloc::{AllocError, Global};
 use std::process::Abort;
 

@@ -8,7 +8,7 @@ use super::server::{
 use super::steps::Step::{self, Close, Over, Say};
 use super::steps::connected;
 use sm_history::NoGate;
-use sm_kinds::push_numbered;
+use sm_values::push_numbered;
 use std::alloc::{AllocError, Global};
 use std::process::Abort;
 use std::str;

@@ -3,7 +3,7 @@
 use super::server::{Heard, Left};
 use super::steps::Step::{self, Close, Flood, Over, ReloadStricter, Repeat, Say, SayAll, Vanish};
 use sm_engine::ServeFault;
-use sm_kinds::push_numbered;
+use sm_values::push_numbered;
 use std::alloc::{AllocError, Global};
 use std::process::Abort;
 use std::str;

@@ -35,7 +35,7 @@ fn kept_deliveries_are_taken_without_a_wait(rt: HostRuntime) -> Result<(), Fail>
     let step = Doorstep::new(&rt, &NoGate, ringer.bells(), NO_CONNECTION);
     step.connect(CLIENT);
     for _ in 0..3 {
-        ringer.deliver(CLIENT);
+        ringer.ring(CLIENT);
     }
     for _ in 0..3 {
         assert!(&rt; waited(&rt, &step) < Duration::from_secs(5));
@@ -49,10 +49,10 @@ fn a_take_waits_while_others_get_deliveries(rt: HostRuntime) -> Result<(), Fail>
     let ringer = Ringer::new(rt.alloc(), 2, SHORT).ok().expect(&rt, "bells");
     let step = Doorstep::new(&rt, &NoGate, ringer.bells(), NO_CONNECTION);
     step.connect(CLIENT);
-    ringer.deliver(OTHER);
+    ringer.ring(OTHER);
     assert!(&rt; waited(&rt, &step) >= Duration::from_millis(u64::from(SHORT)));
     // A delivery that was taken is waited for no more.
-    ringer.deliver(CLIENT);
+    ringer.ring(CLIENT);
     step.before_take();
     step.take();
     assert!(&rt; waited(&rt, &step) >= Duration::from_millis(u64::from(SHORT)));
@@ -64,7 +64,7 @@ fn a_take_waits_for_nothing_that_was_not_there(rt: HostRuntime) -> Result<(), Fa
     let ringer = Ringer::new(rt.alloc(), 1, SHORT).ok().expect(&rt, "bells");
     let step = Doorstep::new(&rt, &NoGate, ringer.bells(), NO_CONNECTION);
     step.connect(CLIENT);
-    ringer.deliver(CLIENT);
+    ringer.ring(CLIENT);
     step.before_take();
     step.find_empty();
     assert!(&rt; waited(&rt, &step) >= Duration::from_millis(u64::from(SHORT)));
@@ -78,7 +78,7 @@ fn a_ring_ends_a_wait(rt: HostRuntime) -> Result<(), Fail> {
     step.connect(CLIENT);
     let far = Duration::from_secs(5);
     thread::scope(thread::scope_env(), &rt, |scope| {
-        let started = scope.spawn(|| ringer.deliver(CLIENT));
+        let started = scope.spawn(|| ringer.ring(CLIENT));
         assert!(&rt; started.is_ok() && waited(&rt, &step) < far);
     });
     Ok(())

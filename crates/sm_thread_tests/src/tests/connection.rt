@@ -10,7 +10,7 @@ use sm_connection::{
 use sm_door::{Admin, Door, Naming, Seat};
 use sm_engine::Counted;
 use sm_history::{NoGate, Record};
-use sm_kinds::drop_fields;
+use sm_values::drop_fields;
 use std::alloc::Global;
 use std::cell::Cell;
 use std::process::Abort;

@@ -1,7 +1,7 @@
 //! Requests as lines, and the lines of replies.
 
 use sm_history::{Denial, Event, Outcome, Query, Refusal, Reply, Shared};
-use sm_kinds::{ClientId, Identity, Name, ObjRef, push_access, push_numbered};
+use sm_values::{ClientId, Identity, Name, ObjRef, push_access, push_numbered};
 use sm_wire::*;
 use std::alloc::{AllocError, Global};
 use std::process::Abort;

@@ -1,7 +1,7 @@
 //! The text of a refusal is its reply line.
 
 use sm_history::{Denial, Exception, Failure, Refusal, Reply, Shared};
-use sm_kinds::{Class, Name, Perms};
+use sm_values::{Class, Name, Perms};
 use sm_wire::{Telling, reply_line};
 use std::alloc::{AllocError, Global};
 use std::process::Abort;

@@ -1,8 +1,8 @@
 //! The answers to lines, and the files after a `reload` line.
 
 use sm_history::{Denial, Outcome, Record, Reply};
-use sm_kinds::{Class, ClientId, Context, Identity, Name, Perms};
 use sm_policy::{PolicyFault, Violation};
+use sm_values::{Class, ClientId, Context, Identity, Name, Perms};
 use sm_wire::*;
 use std::alloc::Global;
 use std::test::*;

@@ -3,8 +3,8 @@
 use sm_connection::*;
 use sm_engine::Counted;
 use sm_history::{Event, Gate, Outcome, Refusal, Reply};
-use sm_kinds::ClientId;
 use sm_samples::OneByte;
+use sm_values::ClientId;
 use sm_wire::{Kind, Request};
 use std::alloc::Global;
 use std::process::Abort;

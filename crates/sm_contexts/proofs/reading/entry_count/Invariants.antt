@@ -1,5 +1,5 @@
 use Rattle.std.proofs.Common.{◌≡◌, ◌+◌, ◌≤◌, length, count_by}
-use Rattle.sm_kinds.specs.declared.limits.TheConstants.{MOST_TEXT_BYTES}
+use Rattle.sm_values.specs.declared.limits.TheConstants.{MOST_TEXT_BYTES}
 use Rattle.sm_contexts.specs.Reading.{is_entry}
 use Rattle.sm_contexts.proofs.reading.entry_count.Given as goal
 

@@ -1,5 +1,5 @@
 use Rattle.std.proofs.Common.{subst}
-use Rattle.sm_kinds.specs.Reading.{Gives}
+use Rattle.sm_values.specs.Reading.{Gives}
 use Rattle.sm_ruletext.specs.Grammar.{is_memory}
 use Rattle.sm_ruletext.proofs.Faults.{fault_result}
 use Rattle.sm_ruletext.proofs.Stated.{found_result, only}

@@ -1,7 +1,7 @@
 use Rattle.std.proofs.Common.{[], ◌≡◌, ◌⊎◌, MatchResult, Result, Ok, Err, IfOk, IfErr, false, subst}
-use Rattle.sm_kinds.specs.declared.class.Class.TheVariants.{Binder}
-use Rattle.sm_kinds.specs.declared.identity.Identity.{Identity}
-use Rattle.sm_kinds.specs.Contexts.{type_of}
+use Rattle.sm_values.specs.declared.class.Class.TheVariants.{Binder}
+use Rattle.sm_values.specs.declared.identity.Identity.{Identity}
+use Rattle.sm_values.specs.Contexts.{type_of}
 use Rattle.sm_policy.specs.Policy.{allowed}
 use Rattle.sm_history.specs.declared.refusal.Refusal.TheVariants.{Memory}
 use Rattle.sm_history.specs.Checks.{managing}

@@ -1,6 +1,6 @@
 use Rattle.std.proofs.Common.{◌≡◌, ◌++◌, OnOk, ap, ◌∙◌, List, ℕ, codes, subst}
 use Rattle.std.proofs.lemmas.List.{append_assoc}
-use Rattle.sm_kinds.specs.Messages.{numbered}
+use Rattle.sm_values.specs.Messages.{numbered}
 use Rattle.sm_wire.specs.Replies.{registered_text, spaced_name, spaced_given}
 use Rattle.sm_wire.proofs.deliveries.push_registered.Goals as goal
 

@@ -1,7 +1,7 @@
 use Rattle.std.proofs.Common.{◌≡◌, ◌++◌, ◌∷◌, [], List, Option, Some, None, append_assoc, append-nil, refl, sym, ap, ℕ}
 use Rattle.std.proofs.Common.{rules, Err}
 use Rattle.std.specs.Option.{option_map, option_and_then}
-use Rattle.sm_kinds.specs.declared.number.ObjRef.{ObjRef}
+use Rattle.sm_values.specs.declared.number.ObjRef.{ObjRef}
 use Rattle.sm_wire.specs.declared.read_error.ReadError.{ReadError}
 use Rattle.sm_wire.specs.declared.read_error.ReadError.TheVariants.{Malformed, Memory}
 use Rattle.sm_wire.specs.Reading.{ReadsAs}

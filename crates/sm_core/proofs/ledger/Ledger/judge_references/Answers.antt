@@ -1,7 +1,7 @@
 use Rattle.std.proofs.Common.{◌≡◌, ◌+◌, ◌∷◌, [], ◌++◌, drop, get_or, rules}
 use Rattle.std.proofs.lemmas.List.{drop_all, drop_more}
 use Rattle.std.proofs.lemmas.Result.{err_from_is_err_and}
-use Rattle.sm_kinds.specs.declared.number.ObjRef.TheVariants.{Own}
+use Rattle.sm_values.specs.declared.number.ObjRef.TheVariants.{Own}
 use Rattle.sm_history.specs.Histories.{effects_of}
 use Rattle.sm_history.specs.Records.{moment_of}
 use Rattle.sm_core.proofs.CallChecks.{halts_left, left_behind, names_on, all_named}

@@ -1,5 +1,5 @@
 use Rattle.std.proofs.Common.{◌≡◌, ◌+◌, ◌-◌, Some, None, ◌∙◌, refl, sym, ap, get_or, arith}
-use Rattle.sm_kinds.specs.declared.number.Node.{Node}
+use Rattle.sm_values.specs.declared.number.Node.{Node}
 use Rattle.sm_history.proofs.Balanced.{node_same}
 use Rattle.sm_history.specs.Tables.{slot}
 use Rattle.sm_grants.specs.Slots.{node_of}

@@ -1,7 +1,7 @@
 use Rattle.std.proofs.Common.{◌≡◌, ◌+◌, ◌||◌, ◌∷◌, [], ◌++◌, ◌∙◌, sym, ap, refl, true, false, if◌then◌else◌, get_or}
 use Rattle.std.proofs.Common.{take, arith}
 use Rattle.std.specs.List.{list_any}
-use Rattle.sm_kinds.specs.declared.number.Node.{Node}
+use Rattle.sm_values.specs.declared.number.Node.{Node}
 use Rattle.std.proofs.lemmas.Bool.{not-true, not-false}
 use Rattle.std.proofs.lemmas.List.{take_more, take_all, length-take-le}
 use Rattle.sm_history.specs.Effects.{same_node}

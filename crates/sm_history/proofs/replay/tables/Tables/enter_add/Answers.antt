@@ -1,5 +1,5 @@
 use Rattle.std.proofs.Common.{ap, ◌∙◌, Option}
-use Rattle.sm_kinds.specs.declared.number.Node.{Node}
+use Rattle.sm_values.specs.declared.number.Node.{Node}
 use Rattle.sm_history.specs.Histories.{found}
 use Rattle.sm_history.proofs.EnteringEvents.{add_step}
 use Rattle.sm_history.proofs.replay.tables.Tables.enter_add.Goals as goal

@@ -1,7 +1,7 @@
 use Rattle.std.proofs.Common.{◌≡◌, true, refl, Option, Some, None}
 use Rattle.std.specs.Prelude.{is_some}
 use Rattle.std.proofs.lemmas.Bool.{false≢true}
-use Rattle.sm_kinds.specs.declared.number.Node.{Node}
+use Rattle.sm_values.specs.declared.number.Node.{Node}
 use Rattle.sm_history.specs.Holdings.{node_at}
 use Rattle.sm_history.specs.Histories.{found}
 use Rattle.sm_history.proofs.Balanced.{found_held}

@@ -1,5 +1,5 @@
 use Rattle.std.proofs.Common.{◌+◌, drop, get_or, arith}
-use Rattle.sm_kinds.specs.declared.number.ObjRef.TheVariants.{Own}
+use Rattle.sm_values.specs.declared.number.ObjRef.TheVariants.{Own}
 use Rattle.sm_history.proofs.EnteringLoops.{HandsOne, refs_step}
 use Rattle.sm_history.proofs.replay.tables.Tables.hand_all.Goals as goal
 use Rattle.std.proofs.lemmas.List.{drop_more}

@@ -2,7 +2,7 @@
 
 ghost use Rattle.std.specs.Prelude.{◌≡◌, ◌≢◌, ◌≤◌, ◌<◌, length, drop, take, IfOk, OnOk, OnErr, true, false};
 ghost use Rattle.std.specs.List.{prefix_len, list_all};
-ghost use Rattle.sm_kinds.specs.Contexts as spec;
+ghost use Rattle.sm_values.specs.Contexts as spec;
 
 use crate::lines::behind;
 use std::alloc::{AllocError, Global};
@@ -53,7 +53,7 @@ impl Clone for Context {
 }
 
 impl Context {
-    ghost use Rattle.sm_kinds.specs.declared.context.ContextError.TheVariants.{BadContext};
+    ghost use Rattle.sm_values.specs.declared.context.ContextError.TheVariants.{BadContext};
 
     /// Reads a context.
     pub fn read(alloc: Global, text: &[u8]) -> Result<Context, ContextError>

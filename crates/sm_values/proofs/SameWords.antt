@@ -3,7 +3,7 @@ use Rattle.std.proofs.Common.{◌≡◌, ℕ, zero, suc, ◌+◌, ◌-◌, ◌�
 use Rattle.std.proofs.Common.{length, get_or, arith, inl, inr}
 use Rattle.std.proofs.lemmas.Bool.{cases_lt}
 use Rattle.std.proofs.lemmas.Grind.{same_number_lists}
-use Rattle.sm_kinds.specs.Words.{eight, four}
+use Rattle.sm_values.specs.Words.{eight, four}
 
 item_of : (xs : List ℕ) (i k : ℕ) → k < 8 → get_or (eight xs i) k 0 ≡ get_or xs (i + k) 0
 item_of xs i zero lt = ap (λ v. get_or xs v 0) (let e : i ≡ i + 0 = omega arith in e)

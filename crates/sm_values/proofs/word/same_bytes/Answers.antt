@@ -1,6 +1,6 @@
 use Rattle.std.proofs.Common.{◌-◌, ◌*◌, length, arith}
-use Rattle.sm_kinds.proofs.SameWords.{same_more, same_all}
-use Rattle.sm_kinds.proofs.word.same_bytes.Goals as goal
+use Rattle.sm_values.proofs.SameWords.{same_more, same_all}
+use Rattle.sm_values.proofs.word.same_bytes.Goals as goal
 
 pub returns-then-n-ge8-clause-yes : goal.returns-then-n-ge8-clause-yes
 returns-then-n-ge8-clause-yes c same =

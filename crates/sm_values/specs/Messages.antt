@@ -2,10 +2,10 @@
 use Rattle.std.specs.Prelude.{ℕ, List, [], ◌++◌, codes, unwrap_or, if◌then◌else◌}
 use Rattle.std.specs.Fmt.{decimal}
 use Rattle.hex.specs.Hex.{encode_lower}
-use Rattle.sm_kinds.specs.Names.{is_valid_name}
-use Rattle.sm_kinds.specs.declared.class.Class.{Class}
-use Rattle.sm_kinds.specs.declared.perms.Perms.{Perms}
-use Rattle.sm_kinds.specs.Permissions.{class_word, perm_word}
+use Rattle.sm_values.specs.Names.{is_valid_name}
+use Rattle.sm_values.specs.declared.class.Class.{Class}
+use Rattle.sm_values.specs.declared.perms.Perms.{Perms}
+use Rattle.sm_values.specs.Permissions.{class_word, perm_word}
 
 -- These are words and a number in decimal digits.
 abbrev pub numbered : List ℕ → ℕ → List ℕ

@@ -1,8 +1,8 @@
 -- Classes and permissions, and their words.
 use Rattle.std.specs.Prelude.{ℕ, Bool, List, Option, Some, None, ◌==◌, if◌then◌else◌, codes, is_some}
 use Rattle.std.specs.Str.{bytes_eq}
-use Rattle.sm_kinds.specs.declared.class.Class.{Class, TheVariants.ServiceManager, TheVariants.Binder}
-use Rattle.sm_kinds.specs.declared.perms.Perms.{Perms}
+use Rattle.sm_values.specs.declared.class.Class.{Class, TheVariants.ServiceManager, TheVariants.Binder}
+use Rattle.sm_values.specs.declared.perms.Perms.{Perms}
 
 -- This is the word of a class.
 abbrev pub class_word : Class → List ℕ

@@ -26,8 +26,8 @@ pub enum RefsError {
 
 impl Model for Refs {
     ghost use Rattle.std.specs.Prelude.{List, ◌≤◌, length};
-    ghost use Rattle.sm_kinds.specs.declared.limits.TheConstants.{MOST_REFS};
-    ghost use Rattle.sm_kinds.specs.declared.number.ObjRef.{ObjRef};
+    ghost use Rattle.sm_values.specs.declared.limits.TheConstants.{MOST_REFS};
+    ghost use Rattle.sm_values.specs.declared.number.ObjRef.{ObjRef};
 
     ghost Value = { List ObjRef };
 
@@ -49,8 +49,8 @@ fn boxed(alloc: Global, list: Vec<ObjRef>) -> Result<Box<Vec<ObjRef>>, AllocErro
 }
 
 impl Refs {
-    ghost use Rattle.sm_kinds.specs.declared.limits.TheConstants.{MOST_REFS};
-    ghost use Rattle.sm_kinds.specs.declared.refs.RefsError.TheVariants.{TooMany};
+    ghost use Rattle.sm_values.specs.declared.limits.TheConstants.{MOST_REFS};
+    ghost use Rattle.sm_values.specs.declared.refs.RefsError.TheVariants.{TooMany};
 
     /// Makes a list of these references, whose memory it keeps.
     pub fn from_vec(alloc: Global, list: Vec<ObjRef>) -> Result<Refs, RefsError>

@@ -1,7 +1,7 @@
 //! User numbers, as `ServiceManager.cpp` and `android_filesystem_config.h` divide them.
 
 ghost use Rattle.std.specs.Prelude.{◌≡◌};
-ghost use Rattle.sm_kinds.specs.Users.{app_of, is_barred, is_isolated_user};
+ghost use Rattle.sm_values.specs.Users.{app_of, is_barred, is_isolated_user};
 
 /// User numbers for each of a device's users (`android_filesystem_config.h`).
 pub const AID_USER_OFFSET: u32 = 100_000;

@@ -1,7 +1,7 @@
 //! Parts of messages: decimal numbers, names, and the words of an access.
 
 ghost use Rattle.std.specs.Prelude.{◌≡◌, ◌++◌, OnOk, codes};
-ghost use Rattle.sm_kinds.specs.Messages.{access_words, name_text, numbered};
+ghost use Rattle.sm_values.specs.Messages.{access_words, name_text, numbered};
 
 use crate::class::Class;
 use crate::name::valid_name;

@@ -20,7 +20,7 @@ impl fmt::Display for Class {
 }
 
 impl Class {
-    ghost use Rattle.sm_kinds.specs.Permissions.{class_word, class_read};
+    ghost use Rattle.sm_values.specs.Permissions.{class_word, class_read};
 
     /// Returns the class that a word names, if it is one of the two.
     pub fn read(word: &[u8]) -> Option<Class>

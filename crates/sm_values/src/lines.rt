@@ -2,7 +2,7 @@
 
 ghost use Rattle.std.specs.Prelude.{◌≡◌, ◌≤◌, length, drop};
 ghost use Rattle.std.specs.List.{prefix_len};
-ghost use Rattle.sm_kinds.specs.Lines as spec;
+ghost use Rattle.sm_values.specs.Lines as spec;
 
 /// Returns the bytes after the first `count` ones.
 pub fn behind(bytes: &[u8], count: usize) -> &[u8]

@@ -1,7 +1,7 @@
 -- User numbers.
 use Rattle.std.specs.Prelude.{ℕ, ◌%◌, Bool, nat_le, ◌&&◌}
-use Rattle.sm_kinds.specs.declared.user.TheConstants.{AID_USER_OFFSET, AID_APP_START, AID_ISOLATED_START}
-use Rattle.sm_kinds.specs.declared.user.TheConstants.{AID_ISOLATED_END}
+use Rattle.sm_values.specs.declared.user.TheConstants.{AID_USER_OFFSET, AID_APP_START, AID_ISOLATED_START}
+use Rattle.sm_values.specs.declared.user.TheConstants.{AID_ISOLATED_END}
 
 -- This is the application number of a user number.
 abbrev pub app_of : ℕ → ℕ

@@ -3,7 +3,7 @@ use Rattle.std.specs.Prelude.{ℕ, Bool, List, ◌&&◌, ◌||◌, ◌==◌, nat
 use Rattle.std.specs.List.{list_any, list_all}
 use Rattle.std.specs.Str.{bytes_eq}
 use Rattle.std.specs.Char.{is_ascii_alphanumeric}
-use Rattle.sm_kinds.specs.declared.limits.TheConstants.{MOST_NAME_BYTES}
+use Rattle.sm_values.specs.declared.limits.TheConstants.{MOST_NAME_BYTES}
 
 -- A name is in a list.
 abbrev pub contains : List (List ℕ) → List ℕ → Bool

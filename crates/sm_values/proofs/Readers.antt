@@ -2,7 +2,7 @@
 use Rattle.std.proofs.Common.{◌≡◌, Bool, true, false, Ok, Err, refl}
 use Rattle.std.specs.Prelude.{Result}
 use Rattle.std.specs.Bool.{OnFalse}
-use Rattle.sm_kinds.specs.Reading.{◌>>=◌, Fails}
+use Rattle.sm_values.specs.Reading.{◌>>=◌, Fails}
 
 -- A fault of a part is one of the whole, if the whole has each fault of the part.
 pub fails_along : {A B E : Type 0} (is_memory : E → Bool) (e : E) (part : Result A E) (whole : Result B E)

@@ -3,7 +3,7 @@
 ghost use Rattle.std.specs.Prelude.{◌≡◌, ◌≤◌, ◌+◌, IsTrue, length};
 ghost use Rattle.std.specs.Int.{from_le_bytes, w32, w64};
 ghost use Rattle.std.specs.Str.{bytes_eq};
-ghost use Rattle.sm_kinds.specs.Words.{eight, four};
+ghost use Rattle.sm_values.specs.Words.{eight, four};
 
 use crate::escaped::write_escaped;
 use std::fmt;

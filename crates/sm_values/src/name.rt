@@ -2,7 +2,7 @@
 
 ghost use Rattle.std.specs.Prelude.{◌≡◌, ◌++◌, ◌∷◌, [], OnOk, OnErr, IfOk};
 ghost use Rattle.std.specs.List.{list_all};
-ghost use Rattle.sm_kinds.specs.Names.{is_name_byte, is_valid_name};
+ghost use Rattle.sm_values.specs.Names.{is_name_byte, is_valid_name};
 
 use crate::escaped::write_escaped;
 use crate::limits::MOST_NAME_BYTES;
@@ -91,7 +91,7 @@ impl Model for Names {
 }
 
 impl Names {
-    ghost use Rattle.sm_kinds.specs.Names.{contains};
+    ghost use Rattle.sm_values.specs.Names.{contains};
 
     /// Makes an empty list.
     pub fn new(alloc: Global) -> Names

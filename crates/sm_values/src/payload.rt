@@ -26,7 +26,7 @@ pub enum PayloadError {
 
 impl Model for Payload {
     ghost use Rattle.std.specs.Prelude.{List, ℕ, ◌≤◌, length};
-    ghost use Rattle.sm_kinds.specs.declared.limits.TheConstants.{MOST_PAYLOAD_BYTES};
+    ghost use Rattle.sm_values.specs.declared.limits.TheConstants.{MOST_PAYLOAD_BYTES};
 
     ghost Value = { List ℕ };
 
@@ -52,8 +52,8 @@ impl Clone for Payload {
 }
 
 impl Payload {
-    ghost use Rattle.sm_kinds.specs.declared.limits.TheConstants.{MOST_PAYLOAD_BYTES};
-    ghost use Rattle.sm_kinds.specs.declared.payload.PayloadError.TheVariants.{TooLong};
+    ghost use Rattle.sm_values.specs.declared.limits.TheConstants.{MOST_PAYLOAD_BYTES};
+    ghost use Rattle.sm_values.specs.declared.payload.PayloadError.TheVariants.{TooLong};
 
     /// Makes a payload of these bytes, whose memory it keeps.
     pub fn from_vec(bytes: Vec<u8>) -> Result<Payload, PayloadError>

@@ -13,7 +13,7 @@ pub struct Places {
 
 impl Model for Places {
     ghost use Rattle.std.specs.Prelude.{ℕ, ◌≤◌};
-    ghost use Rattle.sm_kinds.specs.declared.limits.TheConstants.{LEAST_PLACES, MOST_PLACES};
+    ghost use Rattle.sm_values.specs.declared.limits.TheConstants.{LEAST_PLACES, MOST_PLACES};
 
     ghost Value = { ℕ };
 

@@ -55,7 +55,7 @@ impl fmt::Display for Perms {
 }
 
 impl Perms {
-    ghost use Rattle.sm_kinds.specs.Permissions.{perm_read, perm_word};
+    ghost use Rattle.sm_values.specs.Permissions.{perm_read, perm_word};
     ghost use Rattle.std.specs.Prelude.{option_map};
 
     /// Returns the permission of the class that the word names, if there is one.
@@ -85,8 +85,8 @@ impl Perms {
     }
 }
 
-ghost use Rattle.sm_kinds.specs.Permissions.{perm_read};
-ghost use Rattle.sm_kinds.specs.declared.class.Class.TheVariants.{ServiceManager, Binder};
+ghost use Rattle.sm_values.specs.Permissions.{perm_read};
+ghost use Rattle.sm_values.specs.declared.class.Class.TheVariants.{ServiceManager, Binder};
 
 fn service_manager_perm(word: &[u8]) -> Option<Perms>
     ensures { result ≡ perm_read ServiceManager word.now }
