@@ -135,6 +135,7 @@ impl<'a, D: Desk, G: Gate> Machine for GatedSession<'a, D, G> {
         HELD_LIMIT
     }
 
+    #[inline(always)]
     fn written(&mut self) {
         for line in &self.unwritten {
             self.gate.leave(*line);
