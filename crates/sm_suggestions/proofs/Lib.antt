@@ -1,0 +1,9 @@
+pub mod Accesses
+pub mod Counting
+pub mod Counts
+pub mod Forbidding
+pub mod LogParts
+pub mod LogSteps
+pub mod Remembering
+pub mod Tables
+pub mod Unwritten

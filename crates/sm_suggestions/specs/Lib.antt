@@ -1,0 +1,9 @@
+pub mod Finding
+pub mod LogLines
+pub mod LogWords
+pub mod Names
+pub mod Records
+pub mod Rulings
+pub mod Suggesting
+pub mod Tallying
+pub mod Verdicts
