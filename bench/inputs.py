@@ -19,7 +19,7 @@ SERVER_TYPES = 50
 class Input:
     """One input: `size` is what grows, and `requests` the number of a script's lines. Without a script, a policy is to
     be checked, or a question about it is to be answered: `access`, `rules`, `unused`, `diff` with itself, or
-    `check --all` of a policy that is refused."""
+    `check --all` of a policy that is refused. The script of `suggest` is a log."""
 
     name: str
     size: int
@@ -284,6 +284,23 @@ def lists(requests: int) -> Lines:
         yield "1 list 15"
 
 
+def denials(types: int, lines: int, accesses: int, seed: int) -> Lines:
+    """A log of so many denied accesses of the policy of `check: types`, half of them with names, in random order."""
+    draw = random.Random(seed)
+    kept = []
+    for _ in range(accesses):
+        source, target = draw.randrange(types // 2), draw.randrange(types // 2)
+        words = f"scontext=u:r:dom{source}:s0 tcontext=u:r:"
+        if draw.random() < 0.5:
+            perm, name = draw.choice(["add", "find"]), f"name=name{target} "
+            kept.append((perm, f"{name}{words}svc{target}:s0 tclass=service_manager"))
+        else:
+            kept.append((draw.choice(["call", "transfer"]), f"{words}dom{target}:s0 tclass=binder"))
+    for n in range(lines):
+        perm, fields = draw.choice(kept)
+        yield f"journal={n} version=1 avc: denied {{ {perm} }} for pid={100 + n % 1000} uid=10007 {fields} permissive=0"
+
+
 def text(lines: Lines) -> str:
     return "".join(line + "\n" for line in lines)
 
@@ -332,7 +349,7 @@ def all_inputs(seed: int, part: int = 1) -> Iterator[Input]:
     def sizes(*wanted: int) -> dict[int, None]:
         return dict.fromkeys(map(one, wanted))
 
-    gets, notices, reloaded, decisions, wide = map(one, (50_000, 100_000, 1000, 5000, 4096))
+    gets, notices, reloaded, decisions, wide, logged = map(one, (50_000, 100_000, 1000, 5000, 4096, 2400))
     for n in sizes(1000, 2000, 4000):
         yield Input("check: types", n, lambda n=n: policy(n, seed), lambda n=n: policy_contexts(n))
     for n in sizes(13_000, 26_000, 52_000):
@@ -347,6 +364,9 @@ def all_inputs(seed: int, part: int = 1) -> Iterator[Input]:
         for n in sizes(1000, 2000, 4000):
             rules, contexts = lambda n=n: policy(n, seed), lambda n=n: policy_contexts(n)
             yield Input(f"{question}: types", n, rules, contexts, question=question)
+    for n in sizes(25_000, 50_000, 100_000):
+        rules, log = lambda: policy(logged, seed), lambda n=n: denials(logged, n, 100, seed)
+        yield Input("suggest: denials", n, rules, lambda: policy_contexts(logged), log, n, "suggest")
     for n in sizes(200_000, 400_000, 800_000):
         yield run_input("run: versions", n, n, lambda n=n: versions(n))
     for n in sizes(200_000, 400_000, 800_000):

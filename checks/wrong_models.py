@@ -1,5 +1,7 @@
 """Wrong models: each gets one rule of docs/FORMATS.md wrong. `checks/scripts --wrong-models` finds all of them."""
 
+import re
+
 from model import Model
 from modelling.manager import Answer, Manager, is_isolated
 from modelling.policies import Policy, Rule
@@ -128,6 +130,15 @@ class SilencedKept(Manager):
         return False
 
 
+class TargetOfTheLog(Model):
+    """`suggest` passes names over: the target is always that of the log."""
+
+    def asks(self, command, *rest):
+        if command == "suggest":
+            rest = *rest[:-1], re.sub("name=[^ \t\r\n]*", "", rest[-1])
+        return super().asks(command, *rest)
+
+
 MANAGERS = [
     FindBeforeCall,
     RisingNumbers,
@@ -144,3 +155,4 @@ MANAGERS = [
 
 WRONG = [(kind.__name__, Model(manager=kind)) for kind in MANAGERS]
 WRONG.append((SelfLessItems.__name__, Model(policy=SelfLessItems)))
+WRONG.append((TargetOfTheLog.__name__, TargetOfTheLog()))

@@ -41,6 +41,8 @@ def command_of(question):
         words = []
     elif command == "diff":
         files = FILES
+    elif command == "suggest":
+        words = []
     return [command, *options, *files, *words]
 
 
@@ -61,5 +63,6 @@ def commands(case):
         def answer(model, question=question, texts=texts):
             return model.asks(question[0], *texts, *question[1:])
 
-        asked.append((command_of(question), "", answer))
+        given = question[1] if question[0] == "suggest" else ""
+        asked.append((command_of(question), given, answer))
     return asked

@@ -14,6 +14,10 @@ from .policies import CLASS_WORDS, CLIENT_TYPES, NAMES, PERM_WORDS, PERMS_OF, TY
 UIDS = {"server": [1000, 1000, 100001000], "app": [10007, 1000, 10000, 9999], "iso": [99001, 90000, 1000, 99999]}
 ODD_NAMES = ["%61", "%6120", "%", "*", "a:b", "a" * 127, "a" * 128, "%00ff", "%ZZ", "%6", "a%"]
 
+LOG_FRONTS = [[], ["journal=7", "version=1"], ["Dec", "01", "host", "svcmgr[9]:"], ["SELinux", ":"], ["\xff\x00"]]
+ODD_LOG_WORDS = ["{", "}", "avc:", "denied", "granted", "name=a", "tclass=binder", "scontext=u:r:app:s0", "\x80=", "="]
+FEW, LITTLE = [1, 1, 1, 2, 3, 0], [0, 0, 0, 1, 2]
+
 RULE_KINDS = [None, None, None, "allow", "allow", "neverallow", "dontaudit", "dontaudit", "auditallow"]
 
 ODD_LINES = ["", " ", "1", "1 ", "1 take ", "1  take", "01 take", "1 frob", "hello 1 1", "4294967296 take", "seal now"]
@@ -220,7 +224,7 @@ class Drawing(PolicyDrawing):
     # Questions.
 
     def question(self):
-        kind = self.chance.random()
+        kind = 1 if self.forbidden() and self.is_so(0.4) else self.chance.random()
         if kind < 0.2:
             return ("label", self.one([*NAMES, "*", "none", "%61", "a b"]))
         words = [self.one(TYPES), self.one(TYPES), self.one(CLASS_WORDS[:2]), self.one(PERM_WORDS)]
@@ -230,12 +234,52 @@ class Drawing(PolicyDrawing):
         if kind < 0.45:
             is_name = self.is_so(0.3)
             return ("explain", is_name, words[0], self.one(NAMES) if is_name else words[1], words[2], words[3])
-        if kind < 0.8:
+        if kind < 0.75:
             given = [word if self.is_so(0.3) else None for word in words]
             name = self.one([*NAMES, "*"]) if given[1] is None and self.is_so(0.3) else None
             left = given[0], given[1], name, given[2], given[3]
-            return ("access", *left) if kind < 0.65 else ("rules", self.one(RULE_KINDS), *left)
-        return ("unused",) if kind < 0.9 else ("diff",)
+            return ("access", *left) if kind < 0.6 else ("rules", self.one(RULE_KINDS), *left)
+        if kind < 0.82:
+            return ("unused",)
+        return ("diff",) if kind < 0.89 else ("suggest", self.log())
+
+    # Logs.
+
+    def forbidden(self):
+        """The neverallow rules that have a source, each with every access that it covers."""
+        nevers = self.manager.policy.rules["neverallow"] if self.manager else []
+        return [(rule, access) for rule in nevers if rule.sources for access in rule.accesses]
+
+    def denial(self):
+        """A line of a log, mostly one that has a record."""
+        kind = self.one(CLASS_WORDS)
+        words_of_kind = PERMS_OF.get(kind, PERM_WORDS) if self.is_so(0.9) else PERM_WORDS
+        perms = [self.one(words_of_kind) for _ in range(self.one(FEW))]
+        types = [self.one(TYPES if self.is_so(0.9) else ["unknown", "domain"]) for _ in range(2)]
+        forbidden = self.forbidden()
+        if forbidden and self.is_so(0.6):
+            rule, (kind, perm) = self.one(forbidden)
+            types[0] = self.one(rule.sources)
+            types[1], perms = self.one(rule.targets or [types[0]]), [perm, *perms]
+        contexts = [f"u:r:{name}:s0" if self.is_so(0.97) else self.one(["u:r", "u:r:", "", "a:b:c"]) for name in types]
+        words = [*self.one(LOG_FRONTS), "avc:", "denied", "{", *perms, "}", "for", "pid=7"]
+        if self.is_so(0.5):
+            words.append(f"name={self.one([*NAMES, *ODD_NAMES])}")
+        words += [f"scontext={contexts[0]}", f"tcontext={contexts[1]}", f"tclass={kind}", "permissive=0"]
+        for _ in range(self.one(LITTLE)):
+            at = self.chance.randint(0, len(words) - 1)
+            odd = [words[at], self.one(ODD_LOG_WORDS)]
+            words[at : at + 1] = self.one([[], [words[at]] * 2, [self.one(words)], odd])
+        return self.one([" ", " ", " ", "  ", "\t"]).join(words) + self.one(["", "", " ", "\r"])
+
+    def log(self):
+        """A log of denials, whose lines come again."""
+        kept = [self.denial() for _ in range(self.chance.randint(1, 12))]
+        log = [self.one(kept) if self.is_so(0.4) else line for line in kept]
+        if self.is_so(0.1):
+            log.append(self.one(kept).ljust(self.one([65536, 65537])))
+        text = "\n".join(log) + self.one(["\n", ""])
+        return self.changed(text) if self.is_so(0.2) else text
 
     # Cases.
 

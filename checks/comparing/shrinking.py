@@ -76,13 +76,14 @@ def files_of(case, names):
     return [written_file(name, texts[name].splitlines(keepends=True)) for name in names]
 
 
-def script_of(case, words, wanted, came):
+def script_of(case, words, given, wanted, came):
     """A script of bash that shows a difference at a command line, and both answers."""
     found = files_of(case, [name for name in FILES if name in words])
     command = " ".join(["svcmgr", *(shlex.quote(word) for word in words)])
-    if words[0] == "run":
-        found.append(written_file("script", case.script))
-        command += " < script"
+    name = {"run": "script", "suggest": "log"}.get(words[0])
+    if name is not None:
+        found.append(written_file(name, given.splitlines(keepends=True)))
+        command += f" < {name}"
     found.append(command)
     for what, page, program in zip(("standard output", "standard error", "status"), wanted, came):
         if page != program:

@@ -5,9 +5,13 @@ Each gives what it writes to standard output and to standard error, and its stat
 import re
 from itertools import product
 
-from .policies import CLASSES, MOST_BYTES, RULES, Policy, Refused
+from .lines import written
+from .policies import CLASSES, MOST_BYTES, RULES, Policy, Refused, is_context, type_of, words_of
 
 ACCESSES = [(kind, perm) for kind, perms in CLASSES for perm in perms]
+
+# The most bytes of a line of a log that is read, and of a log.
+MOST_LINE, MOST_LOG = 65536, 67108864
 
 
 class Unknown(Exception):
@@ -160,6 +164,66 @@ def unused(kind, rules, contexts, path):
     found += [("dontaudit", rule.line) for rule in policy.rules["dontaudit"] if covered_by(policy, rule) <= granted]
     told = lines(f"{word} {path}:{line}: {statement(every[line - 1 :])}" for word, line in found)
     return told, "", 1 if found else 0
+
+
+def record_of(line):
+    """The source, target, class, permissions and name of a line's record, or nothing."""
+    words = words_of(line)
+    for before in ("avc:", "denied", "{"):
+        if before not in words:
+            return None
+        words = words[words.index(before) + 1 :]
+    if "}" not in words:
+        return None
+    perms, fields = words[: words.index("}")], words[words.index("}") + 1 :]
+    source, target, class_, name = (
+        [word.removeprefix(key) for word in fields if word.startswith(key)]
+        for key in ("scontext=", "tcontext=", "tclass=", "name=")
+    )
+    if [len(source), len(target), len(class_)] != [1, 1, 1] or len(name) > 1:
+        return None
+    if not is_context(source[0]) or not is_context(target[0]):
+        return None
+    return type_of(source[0]), type_of(target[0]), class_[0], perms, name_in(name[0]) if name else None
+
+
+def name_in(word):
+    digits = re.fullmatch("%((?:[0-9a-fA-F]{2})*)", word)
+    return bytes.fromhex(digits[1]).decode("latin-1") if digits else word
+
+
+def verdict(policy, name, *access):
+    """What a policy says of an access to the service of a name, or to none."""
+    for word in access[:2]:
+        if word not in policy.types:
+            return f"unknown {word}"
+    line = policy.line_of(*access)
+    if line is not None:
+        return f"allowed {line}"
+    for rule in policy.rules["neverallow"]:
+        if rule.covers(*access):
+            return f"forbidden {rule.line}"
+    return "missing" if name is None or name in policy.keys() else f"default {written(name)}"
+
+
+@asked
+def suggest(kind, rules, contexts, log):
+    policy = read_policy(rules, contexts, kind)
+    if len(log) > MOST_LOG:
+        return "", "fault: log: too large\n", 2
+    counts, skipped = {}, 0
+    for line in log.split("\n"):
+        skipped += len(line) > MOST_LINE
+        record = record_of(line) if len(line) <= MOST_LINE else None
+        if record is None:
+            continue
+        source, target, class_, perms, name = record
+        target = target if name is None else type_of_name(policy, name)
+        for access in ((source, target, *each) for each in ACCESSES if each[0] == class_ and each[1] in perms):
+            found = f"{verdict(policy, name, *access)} {' '.join(access)}"
+            counts[found] = counts.get(found, 0) + 1
+    told = [f"{found} {count}" for found, count in counts.items()] + [f"skipped {skipped}"] * (skipped > 0)
+    return lines(told), "", 0 if all(line.startswith("allowed ") for line in told) else 1
 
 
 def every_access(policy):

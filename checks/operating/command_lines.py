@@ -158,6 +158,9 @@ COMPLETED = [
     ("svcmgr rules --kind allow --class s", "service_manager"),
     ("svcmgr rules --perm t", "transfer"),
     ("svcmgr rules --kind allow ", "labels rules"),
+    ("svcmgr su", "suggest"),
+    ("svcmgr suggest --h", "--help"),
+    ("svcmgr suggest ", "labels rules"),
     ("svcmgr diff rules labels n", ""),
     ("svcmgr-doorkeeper --re", "--relay"),
     ("svcmgr-doorkeeper --relay --mo", "--mode"),
@@ -281,6 +284,7 @@ FAULTS = {
     "explain rules labels untrusted_app activity_service service_manager find": ASKED,
     "access --source untrusted_app rules labels": ASKED,
     "rules --source untrusted_app rules labels": ASKED,
+    "suggest rules labels": ASKED[:-1],
     "unused rules labels": ASKED[:-1],
     "diff rules labels new newlabels": [[UNKNOWN_OPTION], *OLD, *NEW],
 }
@@ -442,12 +446,14 @@ UNANSWERED = [
     ("explain rules nowhere untrusted_app activity_service service_manager find", "", NOWHERE),
     ("access rules nowhere", "", NOWHERE),
     ("rules rules nowhere", "", NOWHERE),
+    ("suggest rules nowhere", "", NOWHERE),
     ("unused rules nowhere", "", NOWHERE),
     ("diff rules labels nowhere labels", "", NOWHERE),
     ("label refused labels foo", UNKNOWN_NAME, ""),
     ("explain refused labels untrusted_app activity_service service_manager find", UNKNOWN_NAME, ""),
     ("access refused labels", UNKNOWN_NAME, ""),
     ("rules refused labels", UNKNOWN_NAME, ""),
+    ("suggest refused labels", UNKNOWN_NAME, ""),
     ("unused refused labels", UNKNOWN_NAME, ""),
     ("diff refused labels rules labels", UNKNOWN_NAME, "fault: refused labels: policy refused\n"),
     (
@@ -483,9 +489,56 @@ def questions(program):
     with room() as folder:
         tour_in(folder)
         for line, status, told, said in asked:
-            ended = subprocess.run([program, *line.split()], cwd=folder, capture_output=True, timeout=PATIENCE)
+            words, none = [program, *line.split()], subprocess.DEVNULL
+            ended = subprocess.run(words, cwd=folder, stdin=none, capture_output=True, timeout=PATIENCE)
             came = ended.returncode, ended.stdout.decode(), ended.stderr.decode()
             expect(came, (status, told, said), f"{line} ends with")
+
+
+DENIED_FIND = (
+    "avc: denied {{ find }} for pid=7 uid=10007 name={name} scontext=u:r:{source}:s0 tcontext=u:object_r:rest:s0 "
+    "tclass=service_manager permissive=0\n"
+)
+LOGS = [
+    ("", "", 0),
+    ("no denial\n\x00\xff\n", "", 0),
+    (
+        DENIED_FIND.format(name="activity", source="untrusted_app") * 2,
+        "allowed 17 untrusted_app activity_service service_manager find 2\n",
+        0,
+    ),
+    (
+        DENIED_FIND.replace("find", "add").format(name="activity", source="untrusted_app"),
+        "forbidden 22 untrusted_app activity_service service_manager add 1\n",
+        1,
+    ),
+    (
+        DENIED_FIND.format(name="%613a62", source="untrusted_app"),
+        "default %613a62 untrusted_app default_android_service service_manager find 1\n",
+        1,
+    ),
+    (
+        DENIED_FIND.format(name="activity", source="system_app"),
+        "unknown system_app system_app activity_service service_manager find 1\n",
+        1,
+    ),
+    ("avc:".ljust(65536) + "\n" + "avc:".ljust(65537) + "\n", "skipped 1\n", 1),
+]
+MOST_LOG = 67108864
+
+
+@check
+def suggestions(program):
+    """What `suggest` says of logs, also of one that is as large as a log may be, and of a larger one."""
+    asked = [(log.encode("latin-1"), status, told, "") for log, told, status in LOGS]
+    asked += [(b"\n" * MOST_LOG, 0, "", ""), (b"\n" * (MOST_LOG + 1), 2, "", "fault: log: too large\n")]
+    with room() as folder:
+        tour_in(folder)
+        for log, status, told, said in asked:
+            words = [program, "suggest", "device", "devicelabels"]
+            ended = subprocess.run(words, cwd=folder, input=log, capture_output=True, timeout=PATIENCE)
+            came = ended.returncode, ended.stdout.decode(), ended.stderr.decode()
+            expect(came, (status, told, said), f"suggest of {log[:200]!r} ends with")
 
 
 def wait_until_nobody_reads(pipe):
@@ -503,23 +556,25 @@ def unread_answers(program):
         ("label rules labels activity", 0),
         ("access rules labels", 0),
         ("rules rules labels", 0),
+        ("suggest rules labels", 1),
         ("unused needless labels", 1),
         ("explain rules labels untrusted_app activity_service service_manager find", 1),
         ("diff rules labels new newlabels", 1),
         ("label refused labels activity", 2),
         ("check --all --show refused labels", 1),
     ]
+    log = DENIED_FIND.format(name="activity", source="untrusted_app").encode()
     with room() as folder:
         tour_in(folder)
         for line, status in asked:
-            words = [program, *line.split()]
+            words, given = [program, *line.split()], {"cwd": folder, "input": log, "timeout": PATIENCE}
             there, here = os.pipe()
             os.close(there)
             wait_until_nobody_reads(here)
-            ended = subprocess.run(words, cwd=folder, stdout=here, stderr=subprocess.PIPE, timeout=PATIENCE)
+            ended = subprocess.run(words, stdout=here, stderr=subprocess.PIPE, **given)
             os.close(here)
             expect((ended.returncode, ended.stderr), (status, b""), f"{line} ends with, if nobody reads,")
             with open("/dev/full", "wb") as full:
-                ended = subprocess.run(words, cwd=folder, stdout=full, stderr=subprocess.PIPE, timeout=PATIENCE)
+                ended = subprocess.run(words, stdout=full, stderr=subprocess.PIPE, **given)
             came, status = (ended.returncode, ended.stderr), 1 if words[1] == "check" else 2
             expect(came, (status, b"fault: a write failed\n"), f"{line} ends with, if the disk is full,")

@@ -16,7 +16,8 @@ use Rattle.sm_questions.specs.Checking.{refused_line}
 use Rattle.sm_questions.specs.Words.{unknown_words}
 use Rattle.sm_questions.specs.declared.unknown.Unknown.{Unknown}
 use Rattle.sm_command.specs.declared.ending.Ending.{Ending}
-use Rattle.sm_command.specs.declared.ending.Ending.TheVariants.{Memory, File, Lock, Refused, Script, Serve}
+use Rattle.sm_command.specs.declared.ending.Ending.TheVariants.{Memory, File, Lock, LogTooLarge, Refused, Script}
+use Rattle.sm_command.specs.declared.ending.Ending.TheVariants.{Serve}
 
 -- The line for a file has its path, and the words of the operating system.
 abbrev pub TellsOfFile : List ℕ → List ℕ → Type 0
@@ -87,6 +88,7 @@ abbrev pub Tells : Ending → List ℕ → Type 0
 Tells Memory line = line ≡ no_memory
 Tells (File path error) line = TellsOfFile path.now line
 Tells (Lock path error) line = TellsOfFile (lock_of path.now) line
+Tells LogTooLarge line = line ≡ codes "fault: log: too large\n"
 Tells (Refused rules contexts) line = line ≡ refused_files_line rules.now contexts.now
 Tells (Script fault) line = line ≡ script_line fault
 Tells (Serve fault) line = line ≡ serve_line fault

@@ -29,6 +29,9 @@ pub enum Ending<'a> {
     /// The lock beside the socket of this path couldn't be made.
     #[error("fault: {path}.lock: {error}")]
     Lock { path: &'a str, error: io::Error },
+    /// The log on standard input has more bytes than are read.
+    #[error("fault: log: too large")]
+    LogTooLarge,
     /// One of the two policies of a `diff`, that of these files, is refused.
     #[error("fault: {rules} {contexts}: policy refused")]
     Refused { rules: &'a str, contexts: &'a str },
@@ -92,6 +95,7 @@ impl<'a> Ending<'a> {
             Ending::Memory => Vec::from_slice(alloc, NO_MEMORY),
             Ending::File { path, error } => file_line(alloc, path, error),
             Ending::Lock { path, error } => lock_line(alloc, path, error),
+            Ending::LogTooLarge => Vec::from_slice(alloc, b"fault: log: too large\n"),
             Ending::Refused { rules, contexts } => refused_files_line(alloc, rules, contexts),
             Ending::Script(ScriptFault::Policy(fault)) => refused_line(alloc, fault),
             Ending::Script(ScriptFault::Opening(refusal)) => opening_line(alloc, refusal),

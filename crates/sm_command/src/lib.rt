@@ -16,7 +16,7 @@ mod unknown;
 
 pub use administration::{AdminRequest, Administration, RuleWords};
 pub use ending::{Ending, NO_MEMORY, lock_of};
-pub use files::read_limited;
+pub use files::{read_limited, read_log};
 pub use options::{Invocation, Mode, Options, invocation_of, words_of};
 pub use parser::VERSION;
 pub use question::{AccessWords, FilterWords, NewFiles, Question, RuleFilterWords, TargetWord};

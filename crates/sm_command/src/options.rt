@@ -30,6 +30,8 @@ pub enum Mode<'a> {
     /// `svcmgr rules [--kind KIND] [--source TYPE] [--target TYPE] [--name NAME] [--class CLASS] [--perm PERM] RULES
     /// CONTEXTS`
     Rules(RuleFilterWords<'a>),
+    /// `svcmgr suggest RULES CONTEXTS`
+    Suggest,
     /// `svcmgr unused RULES CONTEXTS`
     Unused,
 }
@@ -160,6 +162,7 @@ fn options_under<'a>(name: &str, matches: &ArgMatches<'a>) -> Option<Options<'a>
         ),
         "serve" => in_mode(Mode::Serve(sockets_of(matches)?), matches),
         "rules" => in_mode(Mode::Rules(rule_filter_of(matches)), matches),
+        "suggest" => in_mode(Mode::Suggest, matches),
         "unused" => in_mode(Mode::Unused, matches),
         _ => in_mode(Mode::Ask(question_of(name, matches)?), matches),
     }
@@ -170,7 +173,8 @@ fn in_mode<'a>(mode: Mode<'a>, matches: &ArgMatches<'a>) -> Option<Options<'a>>
 {
     let entries = match mode {
         Mode::Run | Mode::Serve(_) => slots_of(matches),
-        Mode::Check { .. } | Mode::Ask(_) | Mode::Rules(_) | Mode::Unused => DEFAULT_SLOTS,
+        Mode::Check { .. } | Mode::Ask(_) | Mode::Rules(_) | Mode::Suggest | Mode::Unused =>
+            DEFAULT_SLOTS,
     };
     Some(Options {
         mode,

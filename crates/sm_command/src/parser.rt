@@ -17,6 +17,7 @@ pub fn command<'a>(alloc: Global) -> Result<Command<'a>, AllocError> {
         .subcommand(explain(alloc))
         .subcommand(access(alloc))
         .subcommand(rules(alloc))
+        .subcommand(suggest(alloc))
         .subcommand(unused(alloc))
         .subcommand(diff(alloc))
         .subcommand(admin(alloc))
@@ -87,6 +88,11 @@ fn rules<'a>(alloc: Global) -> Building<'a> {
     let kinds = "Only those of this kind: allow, neverallow or dontaudit";
     let rules = Building::new(alloc, "rules", about).arg(word(alloc, "kind", "KIND", kinds));
     with_files(alloc, with_filter(alloc, rules))
+}
+
+fn suggest<'a>(alloc: Global) -> Building<'a> {
+    let about = "Tells what a policy says of each access in a log of denials, from standard input";
+    with_files(alloc, Building::new(alloc, "suggest", about))
 }
 
 fn unused<'a>(alloc: Global) -> Building<'a> {

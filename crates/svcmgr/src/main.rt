@@ -22,7 +22,7 @@ use clap::error::ErrorKind;
 use daemon::serve_policy;
 use journald::is_journal;
 use passed::{Passed, Unusable, passed_sockets};
-use questions::{ask, ask_rules, ask_unused};
+use questions::{ask, ask_rules, ask_suggestions, ask_unused};
 use sm_command::{
     Ending, Invocation, Mode, NO_MEMORY, Options, Sockets, invocation_of, read_limited, words_of,
 };
@@ -149,6 +149,7 @@ fn perform<'a, R: Files + Net + Threads + Wait + Clock + Sync>(
         Mode::Serve(sockets) => Ok(serve(host, rt, options, sockets)),
         Mode::Ask(question) => Ok(ask(host, options, question)),
         Mode::Rules(words) => Ok(ask_rules(host, options, words)),
+        Mode::Suggest => Ok(ask_suggestions(host, options)),
         Mode::Unused => Ok(ask_unused(host, options)),
     }
 }

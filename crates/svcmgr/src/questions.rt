@@ -7,7 +7,7 @@ use crate::pipe::Pipe;
 use crate::{fail, text_of};
 use sm_command::{
     AccessWords, Ending, FilterWords, NO_MEMORY, NewFiles, Options, Question, RuleFilterWords,
-    TargetWord, unknown_line,
+    TargetWord, read_log, unknown_line,
 };
 use sm_engine::{Counted, Fault, write_whole};
 use sm_policy::{PolicyFault, Prepared};
@@ -15,8 +15,10 @@ use sm_questions::{
     FilterOptions, RuleOptions, Target, Unknown, access, diff, explain, label, read_access,
     read_filter, read_rule_filter, refused_line, rules,
 };
+use sm_suggestions::{MOST_LOG_BYTES, suggest};
 use sm_unused::unused;
 use sm_values::Word;
+use std::io::ErrorKind;
 use std::process::ExitCode;
 
 /// The status of a question that has no answer.
@@ -39,6 +41,11 @@ pub fn ask_rules<'a>(
 /// Reads the policy, and lists what is of no use in it.
 pub fn ask_unused<'a>(rt: &HostRuntime, options: &Options<'a>) -> ExitCode {
     answered(rt, try_ask_unused(rt, options))
+}
+
+/// Reads the policy and a log of denials, and writes what the policy says of them.
+pub fn ask_suggestions<'a>(rt: &HostRuntime, options: &Options<'a>) -> ExitCode {
+    answered(rt, try_suggest(rt, options))
 }
 
 /// Returns the status of an answer, or reports why there is none.
@@ -109,6 +116,13 @@ fn try_ask_unused<'a>(rt: &HostRuntime, options: &Options<'a>) -> Result<ExitCod
             refuse(rt, &fault)?;
             Ok(ExitCode::from(NO_ANSWER))
         }
+    }
+}
+
+fn try_suggest<'a>(rt: &HostRuntime, options: &Options<'a>) -> Result<ExitCode, Ending<'a>> {
+    match read_policy(rt, options.rules, options.contexts)? {
+        Some(policy) => tell_suggestions(rt, &policy),
+        None => Ok(ExitCode::from(NO_ANSWER)),
     }
 }
 
@@ -267,6 +281,26 @@ fn tell_unused<'a>(
     let mut writer = Counted::new(Pipe::new(rt.stdout()));
     let ended = unused(rt.alloc(), policy, path.as_bytes(), source, &mut writer);
     decided(ended, writer.into_inner().is_closed())
+}
+
+/// Reads the log on standard input, and writes what the policy says of its denials.
+fn tell_suggestions<'a>(rt: &HostRuntime, policy: &Prepared) -> Result<ExitCode, Ending<'a>> {
+    let log = log_of(rt)?;
+    if log.len() > MOST_LOG_BYTES {
+        return Err(Ending::LogTooLarge);
+    }
+    let mut writer = Counted::new(Pipe::new(rt.stdout()));
+    let ended = suggest(rt.alloc(), policy, &log, &mut writer);
+    decided(ended, writer.into_inner().is_closed())
+}
+
+/// Reads the log on standard input.
+fn log_of<'a>(rt: &HostRuntime) -> Result<Vec<u8>, Ending<'a>> {
+    match read_log(rt.alloc(), rt.stdin()) {
+        Ok(log) => Ok(log),
+        Err(error) if error.kind() == ErrorKind::OutOfMemory => Err(Ending::Memory),
+        Err(_) => Err(Ending::from(Fault::ReadFault)),
+    }
 }
 
 fn filter_options<'a>(words: FilterWords<'a>) -> FilterOptions<'a> {

@@ -10,6 +10,7 @@ use sm_questions::{
 };
 use sm_ruletext::RuleTextFault;
 use sm_samples::{BROKEN_RULE, DEVICE_LABELS, DEVICE_RULES, device_rules_with, stricter_rules};
+use sm_suggestions::{MOST_LOG_BYTES, suggest};
 use sm_unused::unused;
 use sm_values::{Class, Perms, Word};
 use std::alloc::Global;
@@ -123,6 +124,25 @@ fn lists_unused(rt: &impl Abort, alloc: Global) -> Option<()> {
     wrote(rt, fault, writer, UNUSED_TOLD)
 }
 
+const LOG: &[u8] =
+    b"avc: denied { add } name=activity scontext=u:r:untrusted_app:s0 tcontext=u:r:x:s0 tclass=service_manager
+avc: denied { find } name=%613a62 scontext=u:r:untrusted_app:s0 tcontext=u:r:x:s0 tclass=service_manager
+avc: denied { call } scontext=u:r:system_server:s0 tcontext=u:r:untrusted_app:s0 tclass=binder
+";
+
+const SUGGESTED: &[u8] = b"forbidden 16 untrusted_app activity_service service_manager add 1
+default %613a62 untrusted_app default_android_service service_manager find 1
+missing system_server untrusted_app binder call 1
+";
+
+/// Says what the policy says of a log of denials.
+fn suggests(rt: &impl Abort, alloc: Global, policy: &Prepared) -> Option<()> {
+    let mut writer = Counted::new(Vec::new(alloc));
+    assert!(rt; LOG.len() <= MOST_LOG_BYTES);
+    let fault = suggest(alloc, policy, LOG, &mut writer).err();
+    wrote(rt, fault, writer, SUGGESTED)
+}
+
 fn compares(rt: &impl Abort, alloc: Global, old: &Prepared, new: &Prepared) -> Option<()> {
     let mut writer = Counted::new(Vec::new(alloc));
     let fault = diff(alloc, old, new, &mut writer).err();
@@ -181,6 +201,7 @@ fn answers(rt: &impl Abort, alloc: Global, old: &Prepared, new: &Prepared) {
     again!(rt; explains(rt, alloc, old));
     again!(rt; lists(rt, alloc, old));
     again!(rt; lists_rules(rt, alloc));
+    again!(rt; suggests(rt, alloc, old));
     again!(rt; lists_unused(rt, alloc));
     again!(rt; compares(rt, alloc, old, new));
     again!(rt; names_a_word(rt, alloc));

@@ -181,6 +181,7 @@ const ACCEPTED: &[(&str, Mode, u32)] = &[
         }),
         1_048_576,
     ),
+    ("svcmgr suggest r c", Mode::Suggest, 1_048_576),
     ("svcmgr unused r c", Mode::Unused, 1_048_576),
     (
         "svcmgr diff r c s d",
@@ -290,6 +291,7 @@ const REFUSED: &[(ErrorKind, &[&str])] = &[
             "svcmgr explain r c app svc binder",
             "svcmgr diff r c s",
             "svcmgr rules --kind allow r",
+            "svcmgr suggest r",
             "svcmgr unused r",
             "svcmgr check --show",
             "svcmgr admin reload r",
@@ -303,6 +305,7 @@ const REFUSED: &[(ErrorKind, &[&str])] = &[
             "svcmgr check --journal 2 r c",
             "svcmgr run --workers 2 r c",
             "svcmgr access --kind allow r c",
+            "svcmgr suggest r c log",
         ],
     ),
     (
