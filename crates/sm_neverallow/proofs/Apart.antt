@@ -6,8 +6,8 @@ use Rattle.std.proofs.lemmas.Bool.{cases_lt, ne_eqb, false_from_ne_true, and_par
 use Rattle.sm_bits.specs.Bits.{has, has_bit}
 use Rattle.sm_rules.specs.declared.kept.Kept.{Kept}
 use Rattle.sm_rules.specs.Keeping.{joins, covers, covered, FitsRule}
+use Rattle.sm_matrices.proofs.Searches.{some_at, any_at}
 use Rattle.sm_neverallow.specs.Violating.{clashes, IsApart, Meets, AreApart}
-use Rattle.sm_neverallow.proofs.Searches.{some_at, any_at}
 
 -- A rule joins types alone.
 target_inside : (rule : Kept) (count s t : ℕ) → FitsRule count rule → s < count → joins s t rule ≡ true → t < count

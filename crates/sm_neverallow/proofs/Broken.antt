@@ -6,12 +6,12 @@ use Rattle.std.proofs.lemmas.Bool.{cases_eq, cases_lt, eq-eqb, and_parts, and_fr
 use Rattle.sm_bits.specs.Bits.{has, row, has_bit}
 use Rattle.sm_rules.specs.declared.kept.Kept.{Kept}
 use Rattle.sm_rules.specs.Keeping.{joins, covers}
-use Rattle.sm_neverallow.specs.Matrices.{matrix, AllCompiled, perm_set, is_of_set, IsUnion, Misses, Hits, IsClear}
-use Rattle.sm_neverallow.specs.Matrices.{IsBroken}
+use Rattle.sm_matrices.specs.Matrices.{matrix, AllCompiled, perm_set, is_of_set, IsUnion}
+use Rattle.sm_neverallow.specs.Hitting.{Misses, Hits, IsClear, IsBroken}
 use Rattle.sm_neverallow.specs.Violating.{IsApart, Meets}
 use Rattle.sm_bits.proofs.ByteBits.{no_bits}
-use Rattle.sm_neverallow.proofs.Searches.{any_at}
-use Rattle.sm_neverallow.proofs.Groups.{low_bits}
+use Rattle.sm_matrices.proofs.Searches.{any_at}
+use Rattle.sm_matrices.proofs.Groups.{low_bits}
 
 -- The permissions of a rule of a set are those of the set.
 of_set : (rule : Kept) (set b : ℕ) → perm_set rule ≡ set → b < 7 → has_bit rule.perms.0 b ≡ has_bit set b

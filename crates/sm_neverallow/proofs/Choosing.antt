@@ -8,8 +8,8 @@ use Rattle.std.proofs.lemmas.Option.{slice_get_read}
 use Rattle.sm_bits.specs.Bits.{has, row}
 use Rattle.sm_rules.specs.declared.kept.Kept.{Kept}
 use Rattle.sm_rules.specs.Keeping.{joins}
-use Rattle.sm_neverallow.specs.Matrices.{perm_set, Misses}
-use Rattle.sm_neverallow.specs.Hitting.{HaveTargets, Escapes, Chosen}
+use Rattle.sm_matrices.specs.Matrices.{perm_set, HaveTargets}
+use Rattle.sm_neverallow.specs.Hitting.{Misses, Escapes, Chosen}
 use Rattle.sm_neverallow.proofs.Meeting.{some_same}
 
 -- ---- a rule that joins no source to a target of any

@@ -12,7 +12,6 @@ use Rattle.sm_values.specs.declared.class.Class.TheVariants.{ServiceManager, Bin
 use Rattle.sm_values.specs.declared.perms.Perms.{Perms}
 use Rattle.sm_ruletext.specs.Sets.{selects}
 use Rattle.sm_ruletext.specs.declared.rule.Rule.{Rule}
-use Rattle.sm_ruletext.specs.declared.statement.RuleKind.{RuleKind}
 use Rattle.sm_ruletext.specs.declared.statement.RuleKind.TheVariants.{Allow, Neverallow}
 use Rattle.sm_ruletext.specs.declared.statement.What.{What}
 use Rattle.sm_ruletext.specs.declared.statement.What.TheVariants as what
@@ -23,9 +22,8 @@ use Rattle.sm_rules.specs.Access.{rule_of, covered_by, covers_as, gives, written
 use Rattle.sm_rules.specs.Keeping.{class_at, perm_at, covers, covered, AllSay, KeptRules, RulesOf, rules_in}
 use Rattle.sm_rules.specs.Keeping.{CoverAs, SayAs}
 use Rattle.sm_rules.specs.declared.kept.Kept.{Kept}
-use Rattle.sm_neverallow.specs.Matrices.{AllCompiled, SayCovered}
+use Rattle.sm_matrices.proofs.Searches.{some_at}
 use Rattle.sm_neverallow.specs.Violating.{AllApart}
-use Rattle.sm_neverallow.proofs.Searches.{some_at}
 
 -- ---- what a rule covers is of declared types, and of a single permission
 
@@ -136,17 +134,6 @@ written_numbered policy s t class perm h =
       source = numbered s policy (source_declared policy s t r parts.0);
       target = numbered t policy (target_declared policy s t r parts.0);
     })
-
--- ---- what is compiled
-
--- Matrices of kept rules of a kind say what the policy's rules of that kind cover.
-pub say_covered : (kind : RuleKind) (policy : Policy) (names : List Name) (rules : KeptRules) (kept : List Kept)
-    (count : ℕ) (matrices : List (List (List ℕ))) → RulesOf policy names rules → AllCompiled kept count 7 matrices
-    → count ≡ rules.count → CoverAs kind rules kept → SayCovered kind policy names matrices
-say_covered kind policy names rules kept count matrices is compiled same cover = record {
-  says = λ b s t low hs ht. (let inside : s < count = omega (arith, same, is.count) in
-      (compiled.each b low).says s t inside ∙ cover policy names is b s t low hs ht);
-}
 
 -- ---- consistency
 

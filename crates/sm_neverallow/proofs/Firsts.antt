@@ -7,9 +7,9 @@ use Rattle.sm_types.specs.Denoting.{Policy}
 use Rattle.sm_rules.specs.Access.{written, forbidden}
 use Rattle.sm_rules.specs.Keeping.{class_at, perm_at, covers, covered, Says, KeptRules, RulesOf}
 use Rattle.sm_rules.specs.declared.kept.Kept.{Kept}
+use Rattle.sm_matrices.proofs.Searches.{any_at}
 use Rattle.sm_neverallow.specs.Violating.{clashes, breaks, IsFirstAmong, IsFirstViolation}
 use Rattle.sm_neverallow.specs.declared.violation.NumberedViolation.{NumberedViolation}
-use Rattle.sm_neverallow.proofs.Searches.{any_at}
 use Rattle.sm_neverallow.proofs.Apart.{apart_from_each}
 use Rattle.sm_neverallow.proofs.Consistent.{AreSaid}
 

@@ -1,10 +1,6 @@
-pub mod Layers
-pub mod Doubling
-pub mod Rows
-pub mod Groups
-pub mod Searches
 pub mod Meeting
 pub mod Apart
+pub mod Ready
 pub mod Broken
 pub mod Sifting
 pub mod Consistent

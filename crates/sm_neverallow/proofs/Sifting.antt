@@ -9,10 +9,11 @@ use Rattle.std.proofs.lemmas.Option.{slice_get_read, slice_get_within, get_or_fr
 use Rattle.sm_bits.specs.Bits.{has, row}
 use Rattle.sm_rules.specs.declared.kept.Kept.{Kept}
 use Rattle.sm_rules.specs.Keeping.{joins, FitsRule}
-use Rattle.sm_neverallow.specs.Matrices.{matrix, perm_set, Misses, Hits}
-use Rattle.sm_neverallow.specs.Hitting.{Unites, UnionMisses, UnionHits, MissesGroup, AllUnite, AllMiss, SomeHit}
-use Rattle.sm_neverallow.specs.Hitting.{MissesGroups, IsDiagonal, OwnMisses, OwnHits, rule_at, Chosen, FindsFirst}
-use Rattle.sm_neverallow.proofs.Doubling.{any_at, some_row}
+use Rattle.sm_matrices.specs.Matrices.{matrix, perm_set, IsDiagonal}
+use Rattle.sm_matrices.specs.Uniting.{Unites}
+use Rattle.sm_matrices.proofs.Doubling.{any_at, some_row}
+use Rattle.sm_neverallow.specs.Hitting.{Misses, Hits, UnionMisses, UnionHits, MissesGroup, AllUnite, AllMiss, SomeHit}
+use Rattle.sm_neverallow.specs.Hitting.{MissesGroups, OwnMisses, OwnHits, rule_at, Chosen, FindsFirst}
 use Rattle.sm_neverallow.proofs.Meeting.{some_same}
 
 -- ---- places, one by one

@@ -1,23 +1,40 @@
--- Neverallow rules against a matrix, by groups of eight sources.
-use Rattle.std.specs.Prelude.{◌≡◌, ◌⊎◌, ℕ, zero, suc, Bool, true, false, ◌&&◌, ◌||◌, ◌+◌, ◌*◌, ◌/◌, ◌^◌, ◌<◌, ◌≤◌}
+-- Neverallow rules against matrices, and against one by groups of eight sources.
+use Rattle.std.specs.Prelude.{◌≡◌, ◌⊎◌, ℕ, true, false, ◌&&◌, ◌+◌, ◌*◌, ◌/◌, ◌<◌, ◌≤◌}
 use Rattle.std.specs.Prelude.{List, length, Option, Some, slice_get}
 use Rattle.std.proofs.Common.{get_or}
 use Rattle.sm_bits.specs.Bits.{has, row, has_bit}
-use Rattle.sm_neverallow.specs.Matrices.{matrix, perm_set}
-use Rattle.sm_neverallow.specs.Uniting.{AreWide}
+use Rattle.sm_rules.specs.Keeping.{joins, covers}
 use Rattle.sm_rules.specs.declared.kept.Kept.{Kept}
+use Rattle.sm_matrices.specs.Matrices.{matrix, perm_set}
+use Rattle.sm_matrices.specs.Uniting.{AreWide, Unites}
 
--- ---- unions of rows that follow each other
+-- ---- rules against matrices
 
--- Of the k rows from the first on, some row whose bit is in p has t.
-unfoldable pub any_row : List (List ℕ) → ℕ → ℕ → ℕ → ℕ → Bool
-any_row rows first p zero t = false
-any_row rows first p (suc k) t = any_row rows first p k t || (has_bit p k && has (row rows (first + k)) t)
+-- The rule joins no pair of the rows.
+pub record Misses (rows : List (List ℕ)) (count : ℕ) (rule : Kept) : Type 0 where
+  pub misses : (s t : ℕ) → s < count → (has (row rows s) t && joins s t rule) ≡ false
 
--- At each index p is the union of those of the k rows from the first on whose bit is in p.
-pub record Unites (rows : List (List ℕ)) (first k : ℕ) (unions : List (List ℕ)) : Type 0 where
-  pub number : length unions ≡ 2 ^ k
-  pub says : (p t : ℕ) → p < 2 ^ k → has (row unions p) t ≡ any_row rows first p k t
+-- The rule joins some pair of the rows.
+pub record Hits (rows : List (List ℕ)) (count : ℕ) (rule : Kept) : Type 0 where
+  pub s : ℕ
+  pub t : ℕ
+  pub inside : s < count
+  pub both : (has (row rows s) t && joins s t rule) ≡ true
+
+-- The rule covers nothing that the matrices have.
+pub record IsClear (matrices : List (List (List ℕ))) (count : ℕ) (rule : Kept) : Type 0 where
+  pub clear : (b s t : ℕ) → b < 7 → s < count → (has (row (matrix matrices b) s) t && covers b s t rule) ≡ false
+
+-- The rule covers something that the matrices have.
+pub record IsBroken (matrices : List (List (List ℕ))) (count : ℕ) (rule : Kept) : Type 0 where
+  pub b : ℕ
+  pub s : ℕ
+  pub t : ℕ
+  pub low : b < 7
+  pub inside : s < count
+  pub both : (has (row (matrix matrices b) s) t && covers b s t rule) ≡ true
+
+-- ---- eight sources that follow each other
 
 -- The index says which of the eight sources of a group the rule has.
 pub record IsPlaceOf (place group : ℕ) (rule : Kept) : Type 0 where
@@ -70,10 +87,6 @@ pub record MissesGroups (rows : List (List ℕ)) (first n : ℕ) (rule : Kept) :
 
 -- ---- sources that are targets of their own
 
--- The row has the sources that the rows join to themselves.
-pub record IsDiagonal (rows : List (List ℕ)) (count : ℕ) (own : List ℕ) : Type 0 where
-  pub says : (s : ℕ) → s < count → has own s ≡ has (row rows s) s
-
 -- The rule joins none of these sources to itself by `self`.
 pub record OwnMisses (own : List ℕ) (rule : Kept) : Type 0 where
   pub misses : (s : ℕ) → (rule.to_self && (has own s && has rule.sources s)) ≡ false
@@ -84,10 +97,6 @@ pub record OwnHits (own : List ℕ) (rule : Kept) : Type 0 where
   pub both : (rule.to_self && (has own s && has rule.sources s)) ≡ true
 
 -- ---- the targets of all sources
-
--- The row has the targets of each source.
-pub record HaveTargets (rows : List (List ℕ)) (count : ℕ) (targets : List ℕ) : Type 0 where
-  pub all : (s t : ℕ) → s < count → has (row rows s) t ≡ true → has targets t ≡ true
 
 -- The rule joins no source to one of these targets.
 pub record Escapes (targets : List ℕ) (rule : Kept) : Type 0 where

@@ -1,4 +1,2 @@
 pub mod Hitting
-pub mod Matrices
-pub mod Uniting
 pub mod Violating

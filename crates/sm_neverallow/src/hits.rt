@@ -9,16 +9,15 @@ ghost use Rattle.std.specs.Prelude.{◌≡◌, ◌<◌, ◌≤◌, ◌+◌, ◌*
 ghost use Rattle.std.specs.Prelude.{Some, slice_get, nat_eq, ◌||◌, false, true, if◌then◌else◌};
 ghost use Rattle.sm_bits.specs.Bits.{has, row, has_bit};
 ghost use Rattle.sm_rules.specs.Keeping.{FitsRule};
-ghost use Rattle.sm_neverallow.specs.Matrices.{perm_set, is_of_set, Square, Misses, Hits};
-ghost use Rattle.sm_neverallow.specs.Uniting.{AreWide};
-ghost use Rattle.sm_neverallow.specs.Hitting.{IsPlaceOf, UnionMisses, UnionHits, AreReady, AllUnite, AllMiss, SomeHit};
-ghost use Rattle.sm_neverallow.specs.Hitting.{MissesGroups, OwnMisses, OwnHits, ArePlaces, Escapes, Chosen, FindsFirst};
+ghost use Rattle.sm_matrices.specs.Matrices.{perm_set, is_of_set, Square};
+ghost use Rattle.sm_matrices.specs.Uniting.{AreWide};
+ghost use Rattle.sm_neverallow.specs.Hitting.{Misses, Hits, IsPlaceOf, UnionMisses, UnionHits, AreReady, AllUnite};
+ghost use Rattle.sm_neverallow.specs.Hitting.{AllMiss, SomeHit, MissesGroups, OwnMisses, OwnHits, ArePlaces, Escapes};
+ghost use Rattle.sm_neverallow.specs.Hitting.{Chosen, FindsFirst};
 ghost use Rattle.sm_rules.specs.declared.kept.Kept.{Kept as TheKept};
 
-use crate::matrix::{GROUP, Matrix};
-use crate::perm_sets::perm_set;
-use crate::unions::Unions;
 use sm_bits::{BitRow, with_bit};
+use sm_matrices::{GROUP, Matrix, Unions, perm_set};
 use sm_rules::Kept;
 use sm_types::TypeCount;
 use sm_values::Perms;

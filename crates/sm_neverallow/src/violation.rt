@@ -7,18 +7,16 @@ ghost use Rattle.sm_ruletext.specs.declared.statement.Statement.{Statement as Th
 ghost use Rattle.sm_types.specs.Names.{at};
 ghost use Rattle.sm_rules.specs.Access.{written, forbidden, IsConsistent};
 ghost use Rattle.sm_rules.specs.Keeping.{FitsRule, RulesOf};
-ghost use Rattle.sm_neverallow.specs.Matrices.{perm_set, AllSquare, AllCompiled, AreSetsOf, IsClear, IsBroken};
+ghost use Rattle.sm_matrices.specs.Matrices.{perm_set, AllSquare, AllCompiled, AreSetsOf};
+ghost use Rattle.sm_neverallow.specs.Hitting.{IsClear, IsBroken};
 ghost use Rattle.sm_neverallow.specs.Violating.{both_join, AreApart, IsBetween, IsFirstOf, IsFirstAmong, AllApart};
 ghost use Rattle.sm_neverallow.specs.Violating.{IsFirstViolation};
 ghost use Rattle.sm_rules.specs.declared.kept.Kept.{Kept as TheKept};
 
 use crate::hits::first_hit;
-use crate::layer::Layer;
-use crate::matrices::Matrices;
-use crate::matrix::Matrix;
-use crate::perm_sets::{SET_COUNT, sets_of};
 use bitflags::Flags;
 use sm_bits::BitRow;
+use sm_matrices::{Matrices, SET_COUNT, sets_of};
 use sm_rules::{Kept, PERM_COUNT, Rules, class_at, has_perm, perm_at};
 use sm_types::TypeCount;
 use sm_values::{Class, Perms};
@@ -176,7 +174,7 @@ fn first_of(allows: &[Kept], never: &Kept, count: TypeCount) -> Option<NumberedV
 /// something that the matrices have, or `end` if none does.
 fn first_broken_of(
     alloc: Global,
-    matrices: &[Layer],
+    matrices: &Matrices,
     neverallows: &[Kept],
     sets: &BitRow,
     count: TypeCount,
@@ -199,7 +197,7 @@ fn first_broken_of(
     if !sets.has(usize::from(set.0)) {
         return Ok(end);
     }
-    let joined = Matrix::union_of(alloc, matrices, count, set)?;
+    let joined = matrices.union_of(alloc, count, set)?;
     first_hit(alloc, &joined, neverallows, count, set, end)
 }
 
@@ -209,7 +207,7 @@ fn first_broken_of(
 /// permission of the set has.
 fn first_broken(
     alloc: Global,
-    matrices: &[Layer],
+    matrices: &Matrices,
     neverallows: &[Kept],
     count: TypeCount,
 ) -> Result<Option<usize>, AllocError>
@@ -247,7 +245,7 @@ fn first_broken(
 /// Returns the first violation: that of the first broken neverallow rule, by the first allow rule that breaks it.
 fn first_among(
     alloc: Global,
-    matrices: &[Layer],
+    matrices: &Matrices,
     allows: &[Kept],
     neverallows: &[Kept],
     count: TypeCount,
@@ -292,7 +290,7 @@ pub fn first_violation(
     let allows = rules.allows();
     let neverallows = rules.neverallows();
     let count = rules.type_count();
-    match first_among(alloc, matrices.list(), allows, neverallows, count)? {
+    match first_among(alloc, matrices, allows, neverallows, count)? {
         Some(violation) => Ok(Some(violation)),
         None => Ok(None),
     }

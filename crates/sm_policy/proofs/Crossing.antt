@@ -4,7 +4,7 @@ use Rattle.std.proofs.Crossing.{crosses}
 use Rattle.sm_policy.proofs.labels.Labels.TheSendSync as Labels
 use Rattle.sm_rules.proofs.rules.Rules.TheSendSync as Rules
 use Rattle.sm_types.proofs.types.Types.TheSendSync as Types
-use Rattle.sm_vectors.proofs.vectors.Vectors.TheSendSync as Vectors
+use Rattle.sm_matrices.proofs.vectors.Vectors.TheSendSync as Vectors
 use Rattle.sm_policy.specs.contracts.prepared.Prepared as Prepared
 
 -- The fields of `Parts` may be sent, and may be shared.

@@ -12,8 +12,8 @@ use Rattle.sm_types.specs.Denoting.{types}
 use Rattle.sm_rules.specs.Access.{covers, IsConsistent}
 use Rattle.sm_rules.proofs.Consistent.{some_any}
 use Rattle.sm_rules.specs.Keeping.{rules_in, class_at, perm_at}
+use Rattle.sm_matrices.proofs.Searches.{any_at}
 use Rattle.sm_neverallow.specs.Violating.{breaks, IsFirstViolation}
-use Rattle.sm_neverallow.proofs.Searches.{any_at}
 use Rattle.sm_neverallow.specs.declared.violation.NumberedViolation.{NumberedViolation as Numbered}
 use Rattle.sm_policy.specs.declared.violation.Violation.{Violation}
 use Rattle.sm_policy.specs.Violating.{first_some, perm_numbers, clash, clash_of_pair, clash_of_source, first_clash}

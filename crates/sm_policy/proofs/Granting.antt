@@ -4,8 +4,8 @@ use Rattle.sm_bits.specs.Bits.{has}
 use Rattle.sm_rules.specs.Keeping.{class_at, perm_at}
 use Rattle.sm_types.specs.Names.{at}
 use Rattle.sm_types.specs.Denoting.{types}
-use Rattle.sm_vectors.specs.Tables.{Tables, TablesOf, decision}
-use Rattle.sm_vectors.proofs.Deciding.{decided_allowed, single}
+use Rattle.sm_matrices.specs.Tables.{Tables, TablesOf, decision}
+use Rattle.sm_matrices.proofs.Deciding.{decided_allowed, single}
 use Rattle.sm_policy.specs.declared.prepared.Parts.{Parts}
 use Rattle.sm_policy.specs.Parts.{ArePartsOf}
 use Rattle.sm_policy.specs.Policy.{Policy, allowed, is_permissive}

@@ -15,7 +15,7 @@ use Rattle.sm_types.specs.Denoting.{Policy, types, declares}
 use Rattle.sm_types.proofs.Accepted.{declares_type}
 use Rattle.sm_rules.specs.Access.{joins, is_permissive, allowed, audits}
 use Rattle.sm_rules.proofs.Consistent.{uncovered}
-use Rattle.sm_vectors.specs.Tables.{refusal}
+use Rattle.sm_matrices.specs.Tables.{refusal}
 use Rattle.sm_policy.proofs.Finding.{unplaced}
 
 -- ---- names that aren't declared

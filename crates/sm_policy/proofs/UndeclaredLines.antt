@@ -12,7 +12,7 @@ use Rattle.sm_ruletext.specs.declared.statement.Statement.{Statement}
 use Rattle.sm_types.specs.Denoting.{declares}
 use Rattle.sm_contexts.specs.Lines.{lines, first_word, after_word}
 use Rattle.sm_contexts.specs.Reading.{Entry, has_key, with_entry, with_line, entries_from, read}
-use Rattle.sm_neverallow.proofs.Searches.{any_at}
+use Rattle.sm_matrices.proofs.Searches.{any_at}
 use Rattle.sm_policy.specs.Preparing.{is_undeclared_line, undeclared_from}
 use Rattle.sm_policy.specs.Undeclared.{first_undeclared, is_undeclared}
 use Rattle.sm_policy.proofs.Finding.{is_some-find}

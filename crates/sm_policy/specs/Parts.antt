@@ -2,7 +2,7 @@
 use Rattle.std.specs.Prelude.{◌≡◌}
 use Rattle.sm_types.specs.Members.{IsOf}
 use Rattle.sm_rules.specs.Keeping.{RulesOf}
-use Rattle.sm_vectors.specs.Tables.{TablesOf}
+use Rattle.sm_matrices.specs.Tables.{TablesOf}
 use Rattle.sm_policy.specs.Counting.{counts_of}
 use Rattle.sm_policy.specs.Labelling.{AreNumbered}
 use Rattle.sm_policy.specs.Policy.{Policy, IsConsistent}

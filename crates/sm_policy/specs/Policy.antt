@@ -9,7 +9,7 @@ use Rattle.sm_types.specs.Names.{at}
 use Rattle.sm_types.specs.Denoting.{types, declares}
 use Rattle.sm_contexts.specs.Reading.{Entry, label}
 use Rattle.sm_rules.specs.Access as access
-use Rattle.sm_vectors.specs.declared.decision.Decision.{Decision}
+use Rattle.sm_matrices.specs.declared.decision.Decision.{Decision}
 
 -- A policy has the statements of its source and the entries of its contexts file.
 pub record Policy : Type 0 where

@@ -15,6 +15,6 @@ pub use fault::PolicyFault;
 pub use labels::Label;
 pub use prepared::Prepared;
 pub use refused::refused_text;
-pub use sm_vectors::Decision;
+pub use sm_matrices::Decision;
 pub use snapshot::Snapshot;
 pub use violation::Violation;

@@ -12,10 +12,11 @@ ghost use Rattle.sm_policy.specs.Preparing as spec;
 ghost use Rattle.sm_policy.specs.Preparing.{is_memory};
 ghost use Rattle.sm_policy.specs.Violating.{named_violation};
 ghost use Rattle.sm_policy.specs.Breaking.{IfNeverallow, IsBroken};
-ghost use Rattle.sm_neverallow.specs.Matrices.{AllCompiled};
+ghost use Rattle.sm_matrices.specs.Matrices.{AllCompiled};
 
 use crate::{PolicyFault, Violation};
-use sm_neverallow::{Matrices, first_violation};
+use sm_matrices::Matrices;
+use sm_neverallow::first_violation;
 use sm_rules::Rules;
 use sm_ruletext::Statement;
 use sm_types::Types;

@@ -7,7 +7,7 @@ use Rattle.std.proofs.lemmas.Bool.{cases_eq, cases_lt}
 use Rattle.std.proofs.lemmas.Option.{get_or_from_slice_get, slice_get_read}
 use Rattle.std.proofs.lemmas.List.{get_or_append_left, get_or-append_right, get_or-set_other, get_or-set_same, length-set}
 use Rattle.sm_bits.specs.Bits.{has, row}
-use Rattle.sm_neverallow.specs.Matrices.{AllSquare, Square, matrix}
+use Rattle.sm_matrices.specs.Matrices.{AllSquare, Square, matrix}
 use Rattle.sm_rules.specs.Keeping.{FitsRule, covers, joins}
 use Rattle.sm_rules.specs.declared.kept.Kept.{Kept}
 use Rattle.sm_unused.specs.Missing.{is_missing}

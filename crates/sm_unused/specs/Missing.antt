@@ -1,7 +1,7 @@
 -- The accesses that no rule of some covers, by the numbers of types and permissions.
 use Rattle.std.specs.Prelude.{◌≡◌, ℕ, Bool, not, ◌<◌, List, length}
 use Rattle.sm_bits.specs.Bits.{has, row}
-use Rattle.sm_neverallow.specs.Matrices.{AllSquare, matrix}
+use Rattle.sm_matrices.specs.Matrices.{AllSquare, matrix}
 use Rattle.sm_ruletext.specs.declared.rule.Rule.{Rule}
 use Rattle.sm_ruletext.specs.declared.statement.Statement.{Statement}
 use Rattle.sm_types.specs.Denoting.{types}

@@ -3,7 +3,7 @@
 ghost use Rattle.std.specs.Prelude.{◌≡◌, ◌<◌, ◌+◌, ◌/◌, ◌&&◌, ℕ, length, not, false, true, IfOk, OnOk, IsTrue};
 ghost use Rattle.sm_bits.specs.Bits.{has, row};
 ghost use Rattle.sm_rules.specs.Keeping.{FitsRule, covers};
-ghost use Rattle.sm_neverallow.specs.Matrices.{Square};
+ghost use Rattle.sm_matrices.specs.Matrices.{Square};
 ghost use Rattle.sm_unused.specs.Missing.{IsTable, is_missing};
 
 use crate::pairs::Pairs;

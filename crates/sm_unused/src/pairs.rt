@@ -4,7 +4,7 @@ ghost use Rattle.std.specs.Prelude.{◌≡◌, ◌<◌, ◌≤◌, ◌+◌, ◌*
 ghost use Rattle.std.specs.Prelude.{IfOk, IsTrue};
 ghost use Rattle.sm_bits.specs.Bits.{has, row};
 ghost use Rattle.sm_rules.specs.Keeping.{FitsRule, joins};
-ghost use Rattle.sm_neverallow.specs.Matrices.{Square};
+ghost use Rattle.sm_matrices.specs.Matrices.{Square};
 
 use sm_bits::{BitRow, empty_rows};
 use sm_rules::Kept;

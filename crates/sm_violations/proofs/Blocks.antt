@@ -3,7 +3,7 @@ use Rattle.std.proofs.Common.{inl, inr, ◌≡◌, ℕ, ◌+◌, ◌-◌, ◌/�
 use Rattle.std.proofs.lemmas.Bool.{cases_lt}
 use Rattle.std.proofs.lemmas.List.{get_or_append_left, get_or-append_right}
 use Rattle.sm_bits.specs.Bits.{row}
-use Rattle.sm_neverallow.specs.Matrices.{matrix}
+use Rattle.sm_matrices.specs.Matrices.{matrix}
 use Rattle.sm_violations.specs.Bounding.{Bound, BoundsBlock}
 use Rattle.sm_violations.specs.declared.bounds.Bounds.{Bounds}
 

@@ -10,7 +10,8 @@ use Rattle.sm_types.specs.Denoting.{types}
 use Rattle.sm_rules.specs.Keeping.{rules_in, AllSay, KeptRules, RulesOf, Says}
 use Rattle.sm_rules.specs.declared.kept.Kept.{Kept}
 use Rattle.sm_rules.proofs.Consistent.{all_say}
-use Rattle.sm_neverallow.specs.Matrices.{AllCompiled, IsClear}
+use Rattle.sm_matrices.specs.Matrices.{AllCompiled}
+use Rattle.sm_neverallow.specs.Hitting.{IsClear}
 use Rattle.sm_neverallow.specs.Violating.{AreApart}
 use Rattle.sm_neverallow.proofs.Apart.{apart_from_each}
 use Rattle.sm_neverallow.proofs.Broken.{clear_apart}

@@ -2,7 +2,7 @@
 use Rattle.std.specs.Prelude.{◌≡◌, ℕ, true, ◌+◌, ◌*◌, ◌/◌, ◌<◌, ◌≤◌, List, length}
 use Rattle.std.proofs.Common.{get_or}
 use Rattle.sm_bits.specs.Bits.{has, row}
-use Rattle.sm_neverallow.specs.Matrices.{matrix}
+use Rattle.sm_matrices.specs.Matrices.{matrix}
 use Rattle.sm_violations.specs.declared.bounds.Bounds.{Bounds}
 
 -- The row has the targets of the sources of a block: of 64 that follow each other.

@@ -6,7 +6,7 @@ use Rattle.sm_types.specs.Names.{Name}
 use Rattle.sm_types.specs.declared.table.Table.{Table}
 use Rattle.sm_rules.specs.Keeping.{KeptRules, RulesOf}
 use Rattle.sm_rules.specs.declared.kept.Kept.{Kept}
-use Rattle.sm_neverallow.specs.Matrices.{AllCompiled}
+use Rattle.sm_matrices.specs.Matrices.{AllCompiled}
 use Rattle.sm_neverallow.specs.Violating.{AreApart, IsBetween}
 use Rattle.sm_policy.specs.Violating.{named_violation}
 use Rattle.sm_violations.specs.Bounding.{AllBound}

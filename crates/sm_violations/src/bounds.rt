@@ -6,11 +6,12 @@
 ghost use Rattle.std.specs.Prelude.{◌≡◌, ◌<◌, ◌≤◌, ◌+◌, ◌*◌, ◌/◌, ◌&&◌, ℕ, length, false, true, IfOk};
 ghost use Rattle.sm_bits.specs.Bits.{has, row};
 ghost use Rattle.sm_rules.specs.Keeping.{FitsRule};
-ghost use Rattle.sm_neverallow.specs.Matrices.{matrix, AllSquare, Misses, IsClear};
+ghost use Rattle.sm_matrices.specs.Matrices.{matrix, AllSquare};
+ghost use Rattle.sm_neverallow.specs.Hitting.{Misses, IsClear};
 ghost use Rattle.sm_violations.specs.Bounding.{AllBound, Bound, BoundsBlock};
 
 use sm_bits::BitRow;
-use sm_neverallow::Matrices;
+use sm_matrices::Matrices;
 use sm_rules::{Kept, PERM_COUNT, has_perm};
 use sm_types::TypeCount;
 use std::alloc::{AllocError, Global};

@@ -4,14 +4,15 @@ ghost use Rattle.std.specs.Prelude.{◌≡◌, ◌<◌, ℕ, length, IfOk, IfSom
 ghost use Rattle.sm_rules.specs.Keeping.{FitsRule};
 ghost use Rattle.sm_rules.specs.declared.kept.Kept.{Kept as TheKept};
 ghost use Rattle.sm_types.specs.Names.{at};
-ghost use Rattle.sm_neverallow.specs.Matrices.{AllCompiled};
+ghost use Rattle.sm_matrices.specs.Matrices.{AllCompiled};
 ghost use Rattle.sm_policy.specs.Violating.{named_violation};
 ghost use Rattle.sm_violations.specs.Bounding.{AllBound};
 ghost use Rattle.sm_violations.specs.Finding.{AreApartFrom, IsEnd, IsFirstFrom, IsNext};
 
 use crate::bounds::{Bounds, all_bounds, may_be_broken};
 use crate::clash::clash;
-use sm_neverallow::{Matrices, NumberedViolation};
+use sm_matrices::Matrices;
+use sm_neverallow::NumberedViolation;
 use sm_policy::{PolicyFault, Violation};
 use sm_rules::{Kept, Rules};
 use sm_ruletext::Statement;

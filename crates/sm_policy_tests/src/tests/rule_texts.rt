@@ -3,13 +3,13 @@
 ghost use Rattle.sm_types.specs.Members.{IsOf};
 
 use super::statements::accepted;
-use sm_neverallow::{Matrices, NumberedViolation, first_violation};
+use sm_matrices::{Matrices, Vectors};
+use sm_neverallow::{NumberedViolation, first_violation};
 use sm_rules::{Rules, RulesFault};
 use sm_ruletext::Statement;
 use sm_samples::DEVICE_RULES;
 use sm_types::Types;
 use sm_values::{Class, Perms, push_numbered};
-use sm_vectors::Vectors;
 use std::alloc::{AllocError, Global};
 use std::process::Abort;
 

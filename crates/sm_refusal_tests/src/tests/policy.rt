@@ -3,14 +3,14 @@
 use super::manager::policy;
 use super::outcome::value;
 use sm_contexts::{Contexts, ContextsFault};
-use sm_neverallow::{Matrices, first_violation};
+use sm_matrices::{Matrices, Vectors};
+use sm_neverallow::first_violation;
 use sm_policy::{PolicyFault, Prepared, refused_text};
 use sm_rules::{Rules, RulesFault};
 use sm_ruletext::{RuleKind, RuleTextFault, Statement, What, read};
 use sm_samples::{BROKEN_RULE, DEVICE_LABELS, device_rules_with};
 use sm_types::{Types, TypesFault};
 use sm_values::{Class, Perms};
-use sm_vectors::Vectors;
 use std::alloc::Global;
 use std::process::Abort;
 use std::test::*;

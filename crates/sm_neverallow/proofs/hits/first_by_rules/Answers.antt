@@ -1,5 +1,5 @@
 use Rattle.std.proofs.Common.{arith, refl}
-use Rattle.sm_neverallow.specs.Matrices.{Misses}
+use Rattle.sm_neverallow.specs.Hitting.{Misses}
 use Rattle.sm_neverallow.proofs.Sifting.{one_more_place}
 use Rattle.sm_neverallow.proofs.hits.first_by_rules.Goals as goal
 

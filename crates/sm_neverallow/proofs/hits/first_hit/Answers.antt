@@ -1,6 +1,5 @@
 use Rattle.std.proofs.Common.{◌<◌, length, arith}
-use Rattle.sm_neverallow.specs.Matrices.{Misses, Hits}
-use Rattle.sm_neverallow.specs.Hitting.{Escapes}
+use Rattle.sm_neverallow.specs.Hitting.{Misses, Hits, Escapes}
 use Rattle.sm_neverallow.proofs.Sifting.{all_before, all_through}
 use Rattle.sm_neverallow.proofs.Choosing.{escapes_miss}
 use Rattle.sm_neverallow.proofs.hits.first_hit.Goals as goal

@@ -1,5 +1,5 @@
 use Rattle.std.proofs.Common.{◌<◌, ◌+◌, ℕ}
-use Rattle.sm_neverallow.specs.Matrices.{matrix}
+use Rattle.sm_matrices.specs.Matrices.{matrix}
 use Rattle.sm_neverallow.specs.Hitting.{UnionMisses}
 use Rattle.sm_neverallow.proofs.hits.is_hit.Given as goal
 

@@ -1,4 +1,4 @@
-use Rattle.sm_neverallow.proofs.Rows.{ready_more}
+use Rattle.sm_neverallow.proofs.Ready.{ready_more}
 use Rattle.sm_neverallow.proofs.hits.unions_of.Goals as goal
 
 pub loop-j-preserved : goal.loop-j-preserved

@@ -1,4 +1,4 @@
-use Rattle.sm_neverallow.proofs.Rows.{Ready}
+use Rattle.sm_neverallow.proofs.Ready.{Ready}
 use Rattle.sm_neverallow.proofs.hits.unions_of.Given as goal
 
 abbrev pub invariant-loop-j : goal.invariant-loop-j

@@ -3,7 +3,7 @@ use Rattle.std.proofs.lemmas.List.Elements.{All-get_or}
 use Rattle.std.proofs.lemmas.Option.{slice_get_read, IfSome_then}
 use Rattle.sm_rules.specs.declared.kept.Kept.{Kept}
 use Rattle.sm_rules.specs.Keeping.{FitsRule}
-use Rattle.sm_neverallow.specs.Matrices.{IsBroken}
+use Rattle.sm_neverallow.specs.Hitting.{IsBroken}
 use Rattle.sm_neverallow.specs.Violating.{AreApart, AllApart}
 use Rattle.sm_neverallow.proofs.Apart.{not_all_apart, none_map}
 use Rattle.sm_neverallow.proofs.Broken.{broken_meets, clear_apart}

@@ -1,7 +1,8 @@
 use Rattle.std.proofs.Common.{◌≡◌, ◌<◌, ℕ, slice_get, Some, sym, ◌∙◌}
 use Rattle.std.proofs.lemmas.Result.{IfOk-weaker}
 use Rattle.sm_rules.specs.declared.kept.Kept.{Kept}
-use Rattle.sm_neverallow.specs.Matrices.{perm_set, Misses, Hits, IsClear, IsBroken}
+use Rattle.sm_matrices.specs.Matrices.{perm_set}
+use Rattle.sm_neverallow.specs.Hitting.{Misses, Hits, IsClear, IsBroken}
 use Rattle.sm_neverallow.proofs.Broken.{none_of_set, hits_union, misses_union}
 use Rattle.sm_neverallow.proofs.violation.first_broken_of.Goals as goal
 

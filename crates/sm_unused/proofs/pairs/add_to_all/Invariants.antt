@@ -1,5 +1,5 @@
 use Rattle.sm_bits.specs.Bits.{has}
-use Rattle.sm_neverallow.proofs.Rows.{AddedPairs}
+use Rattle.sm_matrices.proofs.Rows.{AddedPairs}
 use Rattle.sm_unused.proofs.pairs.add_to_all.Given as goal
 
 abbrev pub invariant-loop-s : goal.invariant-loop-s

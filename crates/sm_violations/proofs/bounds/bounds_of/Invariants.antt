@@ -1,6 +1,6 @@
 use Rattle.std.proofs.Common.{◌≡◌, ◌≤◌, ◌+◌, ◌/◌, vec_len}
 use Rattle.std.specs.Vec.{vec_capacity}
-use Rattle.sm_neverallow.specs.Matrices.{matrix}
+use Rattle.sm_matrices.specs.Matrices.{matrix}
 use Rattle.sm_violations.proofs.Blocks.{BlocksBelow}
 use Rattle.sm_violations.proofs.bounds.bounds_of.Given as goal
 

@@ -1,6 +1,6 @@
 use Rattle.std.proofs.Common.{◌≡◌, ◌<◌, ◌≤◌, ◌*◌, ◌&&◌, ℕ, false}
 use Rattle.sm_bits.specs.Bits.{has, row}
-use Rattle.sm_neverallow.specs.Matrices.{matrix}
+use Rattle.sm_matrices.specs.Matrices.{matrix}
 use Rattle.sm_violations.proofs.bounds.meets_in_block.Given as goal
 
 abbrev pub invariant-loop-s : goal.invariant-loop-s

@@ -1,6 +1,0 @@
-use Rattle.std.proofs.Common.{[]}
-use Rattle.sm_neverallow.specs.Matrices.{AllCompiled}
-use Rattle.sm_neverallow.proofs.matrix.empty_matrices.Given as goal
-
-abbrev pub invariant-loop : goal.invariant-loop
-invariant-loop l = AllCompiled [] l.count l.counter l.matrices.items

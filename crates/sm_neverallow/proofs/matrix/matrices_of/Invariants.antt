@@ -1,5 +1,0 @@
-use Rattle.sm_neverallow.proofs.Groups.{Through}
-use Rattle.sm_neverallow.proofs.matrix.matrices_of.Given as goal
-
-abbrev pub invariant-loop-set : goal.invariant-loop-set
-invariant-loop-set l = Through l.rules l.count l.set l.matrices.items
