@@ -5,7 +5,7 @@ use Rattle.std.proofs.lemmas.List.{reverse-append, length-append}
 use Rattle.sm_history.specs.declared.entry.Entry.{Entry}
 use Rattle.sm_history.specs.Histories.{entered}
 use Rattle.sm_history.specs.Openings.{Opening}
-use Rattle.sm_history.specs.Replaying.{joined}
+use Rattle.sm_history.specs.Segments.{joined}
 use Rattle.sm_core.specs.Journals.{journal_segment}
 
 pub joined_more : (cs : List (List Entry)) (c : List Entry) → joined (cs ++ c ∷ []) ≡ joined cs ++ c

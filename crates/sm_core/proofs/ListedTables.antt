@@ -2,7 +2,7 @@
 use Rattle.std.proofs.Common.{◌≡◌, ℕ, ◌+◌, ◌-◌, ◌<◌, true, false, ◌==◌, List, [], ◌∷◌, ◌++◌, refl, ap, sym, subst}
 use Rattle.std.proofs.Common.{◌∙◌, length, map, take, get_or, Option, Some, if◌then◌else◌, arith}
 use Rattle.std.proofs.lemmas.List.{take_more}
-use Rattle.sm_history.specs.declared.replay.client_row.ClientRow.{ClientRow as Listed}
+use Rattle.sm_history.specs.declared.client_row.ClientRow.{ClientRow as Listed}
 use Rattle.sm_history.specs.Effects.{Effects}
 use Rattle.sm_history.specs.Clients.{live_clients}
 use Rattle.sm_history.specs.Tables.{IsClient, IsRowFor, TracksClients, clients_of, client_row_of}

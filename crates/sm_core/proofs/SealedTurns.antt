@@ -24,7 +24,7 @@ use Rattle.sm_history.specs.Histories.{History, effects_of, turn_of}
 use Rattle.sm_history.specs.Segments.{is_admin, with_admin, admins_after, admins_of, client, actors_of, turn_row}
 use Rattle.sm_history.specs.Segments.{sealed}
 use Rattle.sm_history.specs.Sound.{Sound}
-use Rattle.sm_history.specs.Turning.{admin}
+use Rattle.sm_history.specs.Segments.{admin}
 use Rattle.sm_history.proofs.AfterClients.{was_not_live}
 use Rattle.sm_history.proofs.Later.{sealed_turn}
 use Rattle.sm_history.proofs.Living.{any_live}

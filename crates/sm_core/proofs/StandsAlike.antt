@@ -21,7 +21,7 @@ use Rattle.sm_grants.specs.Tracking.{TracksSlots}
 use Rattle.sm_grants.specs.Rows.{TracksRows, slots_of}
 use Rattle.sm_grants.specs.declared.rows.ClientHandles.{ClientHandles}
 use Rattle.sm_names.specs.declared.names.NameTable.{NameTable}
-use Rattle.sm_history.specs.declared.replay.named_row.NamedRow.{NamedRow}
+use Rattle.sm_history.specs.declared.named_row.NamedRow.{NamedRow}
 use Rattle.sm_names.specs.Rows.{TracksRows as TracksServices}
 use Rattle.sm_names.specs.Tracking.{TracksNames}
 use Rattle.sm_inbox.specs.declared.inboxes.Inboxes.{Inboxes}

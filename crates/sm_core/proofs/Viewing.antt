@@ -31,7 +31,7 @@ use Rattle.sm_core.specs.Kept.{Kept}
 use Rattle.sm_core.specs.Stands.{StandPrincipals, sets_in}
 use Rattle.sm_history.proofs.AfterNames.{service_connects}
 use Rattle.sm_history.proofs.Counted.{apart_sound}
-use Rattle.sm_history.specs.declared.replay.named_row.NamedRow.{NamedRow}
+use Rattle.sm_history.specs.declared.named_row.NamedRow.{NamedRow}
 use Rattle.sm_names.specs.Rows.{TracksRows}
 use Rattle.sm_names.specs.Tracking.{TracksNames}
 use Rattle.sm_names.proofs.Others.{same_rows}

@@ -1,6 +1,6 @@
 -- Live clients, as rows of a segment.
 use Rattle.std.specs.Prelude.{ℕ, ◌≡◌, List, [], ◌∷◌}
-use Rattle.sm_history.specs.declared.replay.client_row.ClientRow.{ClientRow as Listed}
+use Rattle.sm_history.specs.declared.client_row.ClientRow.{ClientRow as Listed}
 use Rattle.sm_history.specs.Effects.{Effects}
 use Rattle.sm_history.specs.Inboxes.{inbox_at}
 use Rattle.sm_history.specs.Tables.{slot, slot_at}

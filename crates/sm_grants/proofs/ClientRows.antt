@@ -16,7 +16,7 @@ use Rattle.sm_history.proofs.Balanced.{balanced_lasts, step, release, number_sam
 use Rattle.sm_history.proofs.AfterHoldings.{refs_gives, refs_releases, refs_dies, number_gives}
 use Rattle.sm_history.proofs.AfterClients.{list_dies}
 use Rattle.sm_history.proofs.Sound.{once_filter}
-use Rattle.sm_history.specs.declared.replay.client_row.Held.{Held}
+use Rattle.sm_history.specs.declared.held.Held.{Held}
 use Rattle.sm_grants.specs.declared.rows.ClientHandles.{ClientHandles}
 use Rattle.sm_history.specs.Tables.{Slots, slot, IsPut, released_slot}
 use Rattle.sm_grants.specs.Slots.{node_of, granted_slot, IsGranted, IsNumberFor, HandleTable}

@@ -11,7 +11,7 @@ use Rattle.sm_history.specs.Clients.{is_live}
 use Rattle.sm_history.specs.Holdings.{refs_at, number_at, is_held, held_nodes, fits_handles}
 use Rattle.sm_history.proofs.Grants.{count_gives}
 use Rattle.sm_grants.specs.declared.rows.ClientHandles.{ClientHandles}
-use Rattle.sm_history.specs.declared.replay.client_row.Held.{Held}
+use Rattle.sm_history.specs.declared.held.Held.{Held}
 use Rattle.sm_history.specs.Tables.{slot}
 use Rattle.sm_grants.specs.Slots.{node_of, count_of, held_in, IsAbsent, HandleTable}
 use Rattle.sm_grants.specs.Tracking.{TracksSlots}

@@ -14,7 +14,7 @@ use Rattle.sm_history.specs.Clients.{is_live}
 use Rattle.sm_history.specs.Sound.{IsBalanced}
 use Rattle.sm_history.proofs.Balanced.{balanced_lasts, number_same}
 use Rattle.sm_history.proofs.Grants.{same_self}
-use Rattle.sm_history.specs.declared.replay.client_row.Held.{Held}
+use Rattle.sm_history.specs.declared.held.Held.{Held}
 use Rattle.sm_history.specs.Tables.{Slots, slot, IsPut}
 use Rattle.sm_grants.specs.Slots.{node_of, IsAbsent, IsNumberFor, granted_slot}
 use Rattle.sm_grants.specs.Tracking.{TracksSlots}

@@ -12,7 +12,7 @@ use Rattle.sm_bits.specs.Bits.{has}
 use Rattle.sm_history.specs.Effects.{same_node}
 use Rattle.sm_history.proofs.Balanced.{node_same, number_same}
 use Rattle.sm_history.proofs.Grants.{same_self}
-use Rattle.sm_history.specs.declared.replay.client_row.Held.{Held}
+use Rattle.sm_history.specs.declared.held.Held.{Held}
 use Rattle.sm_history.specs.Tables.{Slots, slot, IsPut, released_slot}
 use Rattle.sm_grants.specs.Slots.{node_of, held_in, key_of, same_key, AreIndexed, AreHandles}
 use Rattle.sm_grants.specs.Slots.{IsAbsent, granted_slot, count_of}

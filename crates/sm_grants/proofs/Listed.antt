@@ -5,7 +5,7 @@ use Rattle.sm_values.specs.declared.number.Node.{Node}
 use Rattle.sm_history.specs.Effects.{Effects}
 use Rattle.sm_history.specs.Holdings.{refs_at, node_at}
 use Rattle.sm_history.specs.Tables.{Slots, slot, slot_at}
-use Rattle.sm_history.specs.declared.replay.client_row.Held.{Held}
+use Rattle.sm_history.specs.declared.held.Held.{Held}
 use Rattle.sm_grants.specs.declared.rows.ClientHandles.{ClientHandles}
 use Rattle.sm_grants.specs.Slots.{node_of, HandleTable}
 use Rattle.sm_grants.specs.Tracking.{TracksSlots}

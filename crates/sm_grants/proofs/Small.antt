@@ -4,7 +4,7 @@ use Rattle.std.specs.Prelude.{is_some, nat_le, nat_lt}
 use Rattle.std.proofs.lemmas.Bool.{true≢false}
 use Rattle.std.proofs.lemmas.Bool.Decides.{nat_tests}
 use Rattle.sm_values.specs.declared.number.Node.{Node}
-use Rattle.sm_history.specs.declared.replay.client_row.Held.{Held}
+use Rattle.sm_history.specs.declared.held.Held.{Held}
 use Rattle.sm_grants.specs.Slots.{node_of}
 
 pub test_lt : (a : ℕ) → nat_lt 0 a ≡ true → 0 < a

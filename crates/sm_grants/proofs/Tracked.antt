@@ -13,7 +13,7 @@ use Rattle.sm_history.specs.Sound.{HasOneEach}
 use Rattle.sm_history.proofs.Balanced.{node_same, number_same}
 use Rattle.sm_history.proofs.Grants.{same_self, IsDistinct, given_distinct}
 use Rattle.sm_history.proofs.HeldAlike.{node_is, node_held, fewer, distinct_filter, among_held, held_among}
-use Rattle.sm_history.specs.declared.replay.client_row.Held.{Held}
+use Rattle.sm_history.specs.declared.held.Held.{Held}
 use Rattle.sm_history.specs.Tables.{Slots, slot, IsPut, released_slot}
 use Rattle.sm_grants.specs.Slots.{node_of, held_in, nodes_in, is_in, IsAbsent, IsFirstFree, granted_slot}
 use Rattle.sm_grants.specs.Tracking.{AreTracked, TracksSlots}

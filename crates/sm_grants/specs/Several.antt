@@ -7,7 +7,7 @@ use Rattle.sm_values.specs.declared.number.Node.{Node}
 use Rattle.sm_history.specs.Effects.{Effects, same_node}
 use Rattle.sm_history.specs.declared.effect.Effect.TheVariants.{Gives}
 use Rattle.sm_history.specs.Holdings.{number_for}
-use Rattle.sm_history.specs.declared.replay.client_row.Held.{Held}
+use Rattle.sm_history.specs.declared.held.Held.{Held}
 use Rattle.sm_history.specs.Tables.{Slots, slot}
 use Rattle.sm_grants.specs.Slots.{node_of, IsAbsent, IsNumberFor, granted_slot}
 

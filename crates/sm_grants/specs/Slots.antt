@@ -6,7 +6,7 @@ use Rattle.sm_values.specs.declared.number.Node.{Node}
 use Rattle.sm_bits.specs.Bits.{has}
 use Rattle.sm_history.specs.Effects.{same_node}
 use Rattle.sm_history.specs.declared.limits.TheConstants.{MOST_HANDLES}
-use Rattle.sm_history.specs.declared.replay.client_row.Held.{Held}
+use Rattle.sm_history.specs.declared.held.Held.{Held}
 use Rattle.sm_history.specs.Tables.{Slots, slot, IsPut}
 
 -- This is the object of a slot.

@@ -7,9 +7,9 @@ use Rattle.std.proofs.lemmas.Bool.{or_parts}
 use Rattle.std.proofs.lemmas.List.{get_or_past}
 use Rattle.sm_values.specs.declared.number.Node.{Node}
 use Rattle.sm_history.specs.declared.service.Service.{Service}
-use Rattle.sm_history.specs.declared.replay.client_row.Held.{Held}
-use Rattle.sm_history.specs.declared.replay.client_row.ClientRow.{ClientRow}
-use Rattle.sm_history.specs.declared.replay.tables.Tables.{Tables}
+use Rattle.sm_history.specs.declared.held.Held.{Held}
+use Rattle.sm_history.specs.declared.client_row.ClientRow.{ClientRow}
+use Rattle.sm_history.specs.declared.tables.Tables.{Tables}
 use Rattle.sm_history.specs.Effects.{Effects}
 use Rattle.sm_history.specs.Holdings.{number_at, node_at, held_nodes, refs_at}
 use Rattle.sm_history.specs.Services.{service_at, current_names, names_added}

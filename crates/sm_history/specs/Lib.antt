@@ -34,8 +34,6 @@ pub mod Records
 pub mod Told
 pub mod Tables
 pub mod Entering
-pub mod Replaying
-pub mod Turning
 pub mod BookOrder
 pub mod Tokens
 pub mod Steps

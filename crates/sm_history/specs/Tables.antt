@@ -1,23 +1,22 @@
--- The tables of a replay, by client: what they say of effects, and their rows.
-use Rattle.std.specs.Prelude.{ℕ, ◌+◌, ◌≡◌, ◌==◌, List, [], ◌∷◌, Option, Some, None, map, filter_map, option_map}
-use Rattle.std.specs.Prelude.{◌<◌, ◌-◌, false, min, nat_le, if◌then◌else◌, length, bytes_eq, insert, remove}
+-- Tables by client: what they say of effects, and their rows.
+use Rattle.std.specs.Prelude.{ℕ, ◌≡◌, ◌==◌, List, Option, Some, None, map, filter_map, option_map}
+use Rattle.std.specs.Prelude.{◌<◌, ◌-◌, false, nat_le, if◌then◌else◌, length, bytes_eq, insert, remove}
 use Rattle.std.specs.Prelude.{slice_index_or, slice_set}
 use Rattle.std.specs.List.{find, flat_map, range_with_len}
 use Rattle.std.proofs.Common.{get_or}
 use Rattle.sm_values.specs.declared.identity.Identity.{Identity}
-use Rattle.sm_values.specs.declared.number.Node.{Node}
 use Rattle.sm_policy.specs.Policy.{Policy, no_policy}
 use Rattle.sm_history.specs.declared.service.Service.{Service}
-use Rattle.sm_history.specs.declared.replay.client_row.Held.{Held}
-use Rattle.sm_history.specs.declared.replay.client_row.ClientRow.{ClientRow}
-use Rattle.sm_history.specs.declared.limits.TheConstants.{GREATEST}
-use Rattle.sm_history.specs.declared.replay.tables.Tables.{Tables}
+use Rattle.sm_history.specs.declared.held.Held.{Held}
+use Rattle.sm_history.specs.declared.client_row.ClientRow.{ClientRow}
+use Rattle.sm_history.specs.declared.tables.Tables.{Tables}
 use Rattle.sm_history.specs.Effects.{Effects}
 use Rattle.sm_history.specs.Clients.{nobody, policy_at, version_at, manager_at, clients_made, live_clients, identity_at}
 use Rattle.sm_history.specs.Holdings.{refs_at, node_at}
 use Rattle.sm_history.specs.Services.{service_at, watches_at}
 use Rattle.sm_history.specs.Inboxes.{inbox_at}
 use Rattle.sm_history.specs.Rising.{IsRising}
+use Rattle.sm_history.specs.Sound.{Sound}
 use Rattle.sm_history.specs.Rows.{Rows, LiveRow, HeldRow, NamedRow, WaitingRow, waiting_row}
 
 -- ---- the parts
@@ -136,11 +135,6 @@ tables_of t = record {
   waiting = flat_map waiting_of t.live.items;
 }
 
--- A slot changes so by one more grant of an object. A count that is the greatest number stays.
-abbrev pub given_slot : Node → Option Held → Option Held
-given_slot n None = Some (record { node = n; count = 1 })
-given_slot n (Some h) = Some (record { node = h.node; count = min (h.count + 1) GREATEST })
-
 -- A slot changes so by one release.
 abbrev pub released_slot : Option Held → Option Held
 released_slot None = None
@@ -183,10 +177,6 @@ pub record TracksTables (d : Effects) (t : Tables) : Type 0 where
   pub names : TracksNames d t.names.items
   pub watches : t.watches.items ≡ watches_at d
 
--- Two lists of clients' rows are equal, row by row.
-abbrev pub AreSameRows : List ClientRow → List ClientRow → Type 0
-AreSameRows [] [] = Unit {0}
-AreSameRows [] (y ∷ ys) = ⊥
-AreSameRows (x ∷ xs) [] = ⊥
-AreSameRows (x ∷ xs) (y ∷ ys) = (y.client ≡ x.client) × (y.who ≡ x.who) × (y.held.items ≡ x.held.items)
-    × (y.waiting.items ≡ x.waiting.items) × AreSameRows xs ys
+-- The tables are those that some sound effects leave.
+abbrev pub AreLeft : Tables → Type 0
+AreLeft t = (d : Effects) × Sound d × TracksTables d t

@@ -20,8 +20,7 @@ impl Drop for Rows {
 
 impl Model for Rows {
     ghost use Rattle.sm_history.specs.Openings.{Opening};
-    ghost use Rattle.sm_history.specs.Tables.{tables_of};
-    ghost use Rattle.sm_history.specs.Replaying.{AreLeft};
+    ghost use Rattle.sm_history.specs.Tables.{tables_of, AreLeft};
 
     ghost Value = { Opening };
 
@@ -30,33 +29,19 @@ impl Model for Rows {
     ghost invariant = { λ r. AreLeft r.tables };
 }
 
-ghost use Rattle.std.specs.Prelude.{◌≡◌, map, IfOk};
+ghost use Rattle.std.specs.Prelude.{◌≡◌, map};
 ghost use Rattle.std.specs.List.{flat_map};
 ghost use Rattle.sm_history.specs.Openings.{blank_opening};
-ghost use Rattle.sm_history.specs.Replaying.{AreLeft, StartsFrom};
-ghost use Rattle.sm_history.specs.Turning.{turn_rows};
-ghost use Rattle.sm_history.specs.Tables.{held_of, live_of, manager_of, policy_of, tables_of, waiting_of};
+ghost use Rattle.sm_history.specs.Tables.{held_of, live_of, manager_of, policy_of, tables_of, waiting_of, AreLeft};
 
+use crate::client_row::ClientRow;
 use crate::effect::Watch;
-use crate::replay::Replay;
-use crate::replay::client_row::ClientRow;
-use crate::replay::named_row::NamedRow;
-use crate::replay::tables::Tables;
-use crate::replay::turning::Turning;
+use crate::named_row::NamedRow;
+use crate::tables::Tables;
 use crate::turn::TurnRow;
 use sm_policy::Prepared;
 use sm_values::Identity;
-use std::alloc::{AllocError, Global};
-
-fn turns_of(alloc: Global, turns: &[TurnRow]) -> Result<Vec<TurnRow>, AllocError>
-    ensures { IfOk result (λ v. v.items ≡ turns.now) }
-{
-    let mut copies = Vec::new(alloc);
-    for row in turns {
-        copies.push(*row)?;
-    }
-    Ok(copies)
-}
+use std::alloc::Global;
 
 /// Returns empty tables.
 fn no_tables(alloc: Global) -> Tables
@@ -100,36 +85,12 @@ impl Rows {
         }
     }
 
-    /// Makes the rows at the end of a replay. Returns an error if an allocation fails.
-    pub(crate) fn of(replay: Replay) -> Result<Rows, AllocError>
-        requires { AreLeft replay.tables }
-        ensures { IfOk result (λ r. r ≡ record {
-          tables = tables_of replay.tables;
-          length = replay.length;
-          turns = turn_rows replay.turning replay.tables.live.items;
-        }) }
+    /// Returns the tables that the changes left.
+    pub fn tables(&self) -> &Tables
+        ensures left { AreLeft result.now }
+        ensures same { tables_of result.now ≡ self.now.tables }
     {
-        let Replay {
-            tables,
-            turning,
-            length,
-        } = replay;
-        let turns = turning.rows(&tables.live)?;
-        Ok(Rows::new(tables, turns, length))
-    }
-
-    /// Starts a replay from these rows. Returns an error if an allocation fails.
-    pub(crate) fn replay(&self) -> Result<Replay, AllocError>
-        ensures { IfOk result (λ r. StartsFrom self.now r) }
-    {
-        let tables = self.tables.copy()?;
-        let turning = Turning::start(tables.alloc, &self.turns)?;
-        let length = self.length;
-        Ok(Replay {
-            tables,
-            turning,
-            length,
-        })
+        &self.tables
     }
 
     /// Returns the manager's process, once it was opened.
@@ -196,21 +157,5 @@ impl Rows {
         ensures { result ≡ self.now.length }
     {
         self.length
-    }
-}
-
-impl Clone for Rows {
-    ghost is_clone = { λ r copy. copy ≡ r };
-
-    /// Copies the rows; texts, deliveries and the policy are shared.
-    fn clone(&self) -> Result<Rows, AllocError> {
-        let tables = self.tables.copy()?;
-        let turns = turns_of(tables.alloc, &self.turns)?;
-        let length = self.length;
-        Ok(Rows {
-            tables,
-            turns,
-            length,
-        })
     }
 }

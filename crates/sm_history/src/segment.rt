@@ -24,7 +24,8 @@ impl Drop for Segment {
 impl Model for Segment {
     ghost use Rattle.std.specs.Prelude.{◌++◌};
     ghost use Rattle.sm_history.specs.Histories.{History};
-    ghost use Rattle.sm_history.specs.Replaying.{ComesAbout, joined, segment};
+    ghost use Rattle.sm_history.specs.Segments.{joined, segment};
+    ghost use Rattle.sm_history.specs.Lawful.{ComesAbout};
 
     ghost Value = { History };
 
@@ -33,45 +34,14 @@ impl Model for Segment {
     ghost invariant = { λ s. ComesAbout (segment s.number s.opening (joined s.full.items ++ s.last.items)) };
 }
 
-ghost use Rattle.std.specs.Prelude.{◌≡◌, ◌<◌, ◌^◌, ◌++◌, [], ℕ, List, reverse, length, IfOk, OnOk};
-ghost use Rattle.sm_history.specs.declared.entry.Entry.{Entry};
-ghost use Rattle.sm_history.specs.Openings.{Opening};
+ghost use Rattle.std.specs.Prelude.{◌≡◌, ◌<◌, ◌^◌, ◌++◌, reverse, length};
 ghost use Rattle.sm_history.specs.Histories.{length_of};
-ghost use Rattle.sm_history.specs.Lawful.{IsLawful};
-ghost use Rattle.sm_history.specs.Segments.{rows_of};
-ghost use Rattle.sm_history.specs.Replaying.{ComesAbout, HasCome, joined, segment};
+ghost use Rattle.sm_history.specs.Lawful.{ComesAbout};
+ghost use Rattle.sm_history.specs.Segments.{joined, segment};
 
 use crate::entry::Entry;
-use crate::replay::Replay;
 use crate::rows::Rows;
 use crate::sequence::Sequence;
-use std::alloc::AllocError;
-
-/// Applies entries in order. Returns an error if an allocation fails.
-fn enter_all(replay: &mut Replay, entries: &[Entry]) -> Result<(), AllocError>
-    ensures { OnOk result ((places number : ℕ) (o : Opening) (before rest : List Entry)
-        → IsLawful places (segment number o (before ++ (entries.now ++ rest)))
-        → HasCome places number o (reverse before) replay.old
-        → HasCome places number o (reverse (before ++ entries.now)) replay.new) }
-{
-    for entry in entries {
-        replay.enter(entry)?;
-    }
-    Ok(())
-}
-
-/// Applies the entries of chunks in order. Returns an error if an allocation fails.
-fn enter_chunks(replay: &mut Replay, chunks: &[Chunk]) -> Result<(), AllocError>
-    ensures { OnOk result ((places number : ℕ) (o : Opening) (rest : List Entry)
-        → IsLawful places (segment number o (joined chunks.now ++ rest))
-        → HasCome places number o [] replay.old
-        → HasCome places number o (reverse (joined chunks.now)) replay.new) }
-{
-    for chunk in chunks {
-        enter_all(replay, chunk.list())?;
-    }
-    Ok(())
-}
 
 fn count_chunks(chunks: &[Chunk]) -> u64
     requires { length (joined chunks.now) < 2 ^ 64 }
@@ -114,7 +84,8 @@ impl Segment {
 
     /// Returns its changes, oldest first: those in full chunks, and those after them.
     pub fn entries(&self) -> (&[Chunk], &[Entry])
-        ensures { self.now.entries ≡ reverse (joined result.0.now ++ result.1.now) }
+        ensures lawful { ComesAbout self.now }
+        ensures parts { self.now.entries ≡ reverse (joined result.0.now ++ result.1.now) }
     {
         (self.full.as_slice(), self.last.as_slice())
     }
@@ -124,16 +95,5 @@ impl Segment {
         ensures { result ≡ length_of self.now }
     {
         self.opening.history_length() + count_chunks(&self.full) + self.last.len() as u64
-    }
-
-    /// Computes the rows after its last change, by applying each change to its opening.
-    pub fn replay(&self) -> Result<Rows, AllocError>
-        ensures { IfOk result (λ r. r ≡ rows_of self.now) }
-    {
-        let mut replay = self.opening.replay()?;
-        enter_chunks(&mut replay, &self.full)?;
-        enter_all(&mut replay, &self.last)?;
-        let rows = Rows::of(replay)?;
-        Ok(rows)
     }
 }

@@ -13,7 +13,7 @@ use Rattle.std.proofs.lemmas.List.{get_or_default, drop_all, take_all, append-ni
 use Rattle.std.proofs.lemmas.List.Edits.{length-insert, length-remove}
 use Rattle.std.proofs.lemmas.List.Sums.{sum_by-cons, sum_by-insert, sum_by-remove, get_or-le-sum_by}
 use Rattle.sm_history.specs.declared.service.Service.{Service}
-use Rattle.sm_history.specs.declared.replay.named_row.NamedRow.{NamedRow}
+use Rattle.sm_history.specs.declared.named_row.NamedRow.{NamedRow}
 use Rattle.sm_history.specs.Rising.{IsRising}
 use Rattle.sm_history.specs.Tables.{names_of, row_in, service_of, IsNamePlace, IsNameChanged}
 use Rattle.sm_history.proofs.NamedRows.{place_here}

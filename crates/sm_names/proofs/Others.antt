@@ -13,7 +13,7 @@ use Rattle.sm_history.specs.Sound.{IsFresh, IsOwned}
 use Rattle.sm_history.proofs.Sound.{is_new}
 use Rattle.sm_history.proofs.AfterNames.{service_connects}
 use Rattle.sm_history.proofs.AfterWatches.{watches_connects}
-use Rattle.sm_history.specs.declared.replay.named_row.NamedRow.{NamedRow}
+use Rattle.sm_history.specs.declared.named_row.NamedRow.{NamedRow}
 use Rattle.sm_names.specs.declared.names.NameTable.{NameTable}
 use Rattle.sm_names.specs.Rows.{TracksRows}
 use Rattle.sm_names.specs.Watching.{TracksList}

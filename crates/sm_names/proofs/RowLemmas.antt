@@ -6,7 +6,7 @@ use Rattle.std.specs.List.{cons_option}
 use Rattle.std.proofs.lemmas.List.{map-append}
 use Rattle.std.proofs.lemmas.List.Elements.{filter-append}
 use Rattle.sm_history.specs.declared.service.Service.{Service}
-use Rattle.sm_history.specs.declared.replay.named_row.NamedRow.{NamedRow}
+use Rattle.sm_history.specs.declared.named_row.NamedRow.{NamedRow}
 use Rattle.sm_history.specs.Queries.{shares_bit}
 use Rattle.sm_history.specs.Rising.{IsRising}
 use Rattle.sm_history.specs.Rows.{named_row}

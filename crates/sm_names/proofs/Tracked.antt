@@ -1,7 +1,7 @@
 -- The names of rows are those that have a service.
 use Rattle.std.proofs.Common.{◌≡◌, ℕ, List, ap, ◌∙◌}
 use Rattle.std.specs.Prelude.{filter}
-use Rattle.sm_history.specs.declared.replay.named_row.NamedRow.{NamedRow}
+use Rattle.sm_history.specs.declared.named_row.NamedRow.{NamedRow}
 use Rattle.sm_history.specs.Effects.{Effects}
 use Rattle.sm_history.specs.Services.{service_at, current_names}
 use Rattle.sm_history.specs.Queries.{names_by_mask, shares_bit}

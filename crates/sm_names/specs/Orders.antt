@@ -1,7 +1,7 @@
 -- Rows in any order, and the order of their names.
 use Rattle.std.specs.Prelude.{ℕ, ◌≡◌, ◌==◌, false, List, [], length, map, nat_lt, slice_index_or, if◌then◌else◌}
 use Rattle.std.specs.List.{count_by}
-use Rattle.sm_history.specs.declared.replay.named_row.NamedRow.{NamedRow}
+use Rattle.sm_history.specs.declared.named_row.NamedRow.{NamedRow}
 
 -- Rows, and how many there is room for.
 pub record RowsWithRoom : Type 0 where

@@ -1,6 +1,6 @@
 -- The rows of names that have a service.
 use Rattle.std.specs.Prelude.{ℕ, List, filter, map}
-use Rattle.sm_history.specs.declared.replay.named_row.NamedRow.{NamedRow}
+use Rattle.sm_history.specs.declared.named_row.NamedRow.{NamedRow}
 use Rattle.sm_history.specs.Effects.{Effects}
 use Rattle.sm_history.specs.Queries.{shares_bit}
 use Rattle.sm_history.specs.Tables as tables

@@ -9,6 +9,7 @@ use sm_history::{
     TurnRow, Watch,
 };
 use sm_policy::Prepared;
+use sm_replay::replay;
 use sm_values::{Class, Identity, Perms};
 use std::alloc::Global;
 use std::process::Abort;
@@ -168,7 +169,7 @@ fn sealed(rt: &impl Abort, manager: &mut Manager, before: Option<Rows>, round: &
     if let Some(rows) = &before {
         assert!(rt; same_rows(rows, segment.opening()));
     }
-    segment.replay().ok().expect(rt, "memory")
+    replay(&segment).ok().expect(rt, "memory")
 }
 
 /// A second seal finds nothing.
@@ -337,7 +338,7 @@ fn a_long_segment_is_replayed(rt: HostRuntime) {
     }
     let segment = manager.seal().ok().expect(&rt, "a segment");
     assert!(rt; segment.history_length() == 5_002);
-    let rows = segment.replay().ok().expect(&rt, "memory");
+    let rows = replay(&segment).ok().expect(&rt, "memory");
     steps(&rt, alloc, &mut manager, AN_ADD);
     let next = manager.seal().ok().expect(&rt, "a segment");
     assert!(rt; same_rows(&rows, next.opening()));

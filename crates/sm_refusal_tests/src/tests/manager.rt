@@ -7,6 +7,7 @@ use super::outcome::same;
 use sm_core::{Manager, View};
 use sm_history::{Answer, By, Event, Outcome, Query, Record, Refusal, Reply, Segment};
 use sm_policy::{PolicyFault, Prepared};
+use sm_replay::replay;
 use sm_samples::{DEVICE_LABELS, DEVICE_RULES};
 use sm_values::{AdminId, ClientId, Context, Identity, Name, Places};
 use std::alloc::Global;
@@ -336,7 +337,7 @@ fn is_first(rt: &impl Abort, segment: &Segment) {
 }
 
 fn is_replayed(rt: &impl Abort, segment: &Segment) -> Option<()> {
-    let rows = segment.replay().ok()?;
+    let rows = replay(segment).ok()?;
     same(rt, rows.history_length(), 3);
     assert!(rt; rows.names().len() == 1);
     Some(())

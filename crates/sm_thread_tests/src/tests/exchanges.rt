@@ -5,6 +5,7 @@ use super::door::{Scene, plays};
 use sm_audit::push_lines;
 use sm_door::{Admin, Door, Naming, Seat, Session};
 use sm_history::{Event, Failure, NoGate, Outcome, Query, Record, Refusal, Reply, is_death};
+use sm_replay::replay;
 use sm_samples::Talk;
 use sm_values::Identity;
 use sm_wire::{Kind, Request, Telling, push_denials, reply_line};
@@ -210,7 +211,7 @@ fn denials<J: Naming, R: Wait + Abort>(
 fn seal<J: Naming, R: Wait + Abort>(rt: &R, door: &Door<J, NoGate>, admin: &mut Admin<J>) -> Reply {
     match door.seal(rt, admin) {
         Ok(segment) => {
-            let rows = segment.replay().ok().expect(rt, "rows");
+            let rows = replay(&segment).ok().expect(rt, "rows");
             assert_eq!(rt; rows.history_length(), segment.history_length());
             Reply::Sealed {
                 number: segment.number(),

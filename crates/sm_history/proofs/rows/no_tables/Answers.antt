@@ -1,5 +1,5 @@
 use Rattle.std.proofs.Common.{List, [], refl, sym, subst}
-use Rattle.sm_history.specs.declared.replay.client_row.ClientRow.{ClientRow}
+use Rattle.sm_history.specs.declared.client_row.ClientRow.{ClientRow}
 use Rattle.sm_history.specs.Rows.{NamedRow}
 use Rattle.sm_history.specs.Tables.{TracksClients, TracksNames}
 use Rattle.sm_history.proofs.SoundHistory.{sound_none}

@@ -1,6 +1,6 @@
 use Rattle.std.proofs.Common.{ap, length, arith}
 use Rattle.sm_history.specs.declared.entry.Entry.{Entry}
-use Rattle.sm_history.proofs.ReplayRuns.{counted_more, counted_below}
+use Rattle.sm_history.proofs.SegmentLengths.{counted_more, counted_below}
 use Rattle.sm_history.proofs.segment.count_chunks.Goals as goal
 
 pub overflow_add-n : goal.overflow_add-n

@@ -1,5 +1,5 @@
 use Rattle.std.proofs.Common.{◌≡◌, length, take}
-use Rattle.sm_history.specs.Replaying.{joined}
+use Rattle.sm_history.specs.Segments.{joined}
 use Rattle.sm_history.proofs.segment.count_chunks.Given as goal
 
 abbrev pub invariant-loop-chunk : goal.invariant-loop-chunk

@@ -1,5 +1,5 @@
 use Rattle.std.proofs.Common.{sym, subst}
-use Rattle.sm_history.specs.Replaying.{ComesAbout}
+use Rattle.sm_history.specs.Lawful.{ComesAbout}
 use Rattle.sm_core.specs.Journals.{Written}
 use Rattle.sm_core.proofs.journal.Journal.closed.Goals as goal
 

@@ -1,7 +1,7 @@
 use Rattle.std.proofs.Common.{◌≡◌, ap, sym, subst, ◌∙◌}
 use Rattle.sm_history.specs.declared.by.By.{By}
 use Rattle.sm_history.specs.Histories.{turn_of}
-use Rattle.sm_history.specs.Replaying.{ComesAbout}
+use Rattle.sm_history.specs.Lawful.{ComesAbout}
 use Rattle.sm_history.specs.Segments.{admins_of, sealed}
 use Rattle.sm_core.specs.Counting.{counted_admins, change_count}
 use Rattle.sm_core.specs.Managed.{Ledgered}

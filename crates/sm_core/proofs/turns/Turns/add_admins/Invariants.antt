@@ -1,6 +1,6 @@
 use Rattle.std.proofs.Common.{◌≡◌, ◌++◌, map, take}
 use Rattle.std.specs.HashMap.{keys}
-use Rattle.sm_history.specs.Turning.{admin}
+use Rattle.sm_history.specs.Segments.{admin}
 use Rattle.sm_core.specs.Counting.{row_for}
 use Rattle.sm_core.proofs.turns.Turns.add_admins.Given as goal
 

@@ -3,7 +3,7 @@ use Rattle.std.proofs.lemmas.Bool.Decides.{nat_tests}
 use Rattle.std.specs.HashMap.{spare}
 use Rattle.std.specs.Map.{keys_of}
 use Rattle.sm_grants.proofs.Indexed.{ok_is}
-use Rattle.sm_history.specs.Turning.{admin}
+use Rattle.sm_history.specs.Segments.{admin}
 use Rattle.sm_core.proofs.SealedTurns.{admins_counted}
 use Rattle.sm_core.proofs.turns.Turns.count_admin.Goals as goal
 

@@ -2,7 +2,7 @@ use Rattle.std.proofs.Common.{ℕ, ◌-◌, ◌==◌, List, refl, ap, map}
 use Rattle.std.specs.Prelude.{nat_lt, slice_index_or}
 use Rattle.sm_history.specs.declared.by.By.TheVariants.{Manager, Client, Admin}
 use Rattle.std.specs.List.{list_any}
-use Rattle.sm_history.specs.Turning.{admin}
+use Rattle.sm_history.specs.Segments.{admin}
 use Rattle.sm_core.specs.Counting.{change_count}
 use Rattle.sm_core.proofs.SealedTurns.{ids, sealed_client}
 use Rattle.sm_core.proofs.turns.Turns.sealed.Goals as goal

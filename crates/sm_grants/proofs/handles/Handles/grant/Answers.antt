@@ -1,6 +1,6 @@
 use Rattle.std.proofs.Common.{sym, ap, ◌∙◌}
 use Rattle.std.specs.Prelude.{is_some, Option}
-use Rattle.sm_history.specs.declared.replay.client_row.Held.{Held}
+use Rattle.sm_history.specs.declared.held.Held.{Held}
 use Rattle.sm_history.specs.Tables.{slot}
 use Rattle.sm_grants.specs.Slots.{granted_slot}
 use Rattle.sm_grants.proofs.Indexed.{kept_put, node_again}

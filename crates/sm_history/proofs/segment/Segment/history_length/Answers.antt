@@ -1,8 +1,9 @@
 use Rattle.std.proofs.Common.{◌+◌, ◌<◌, ◌++◌, List, length, refl, ap, arith, ◌∙◌}
 use Rattle.sm_history.specs.declared.entry.Entry.{Entry}
 use Rattle.sm_history.specs.declared.limits.TheConstants.{GREATEST}
-use Rattle.sm_history.specs.Replaying.{ComesAbout, joined, segment}
-use Rattle.sm_history.proofs.ReplayRuns.{length_fits}
+use Rattle.sm_history.specs.Lawful.{ComesAbout}
+use Rattle.sm_history.specs.Segments.{joined, segment}
+use Rattle.sm_history.proofs.SegmentLengths.{length_fits}
 use Rattle.sm_history.proofs.segment.Segment.history_length.Goals as goal
 
 pub count_chunks-requires : goal.count_chunks-requires

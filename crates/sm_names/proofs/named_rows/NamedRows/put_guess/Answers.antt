@@ -1,6 +1,6 @@
 use Rattle.std.proofs.Common.{rules, ◌∙◌, ap}
 use Rattle.std.proofs.lemmas.List.{get_or_read}
-use Rattle.sm_history.specs.declared.replay.named_row.NamedRow.{NamedRow}
+use Rattle.sm_history.specs.declared.named_row.NamedRow.{NamedRow}
 use Rattle.sm_names.specs.Orders.{no_row}
 use Rattle.sm_names.proofs.OrderLemmas.{put_guessed}
 use Rattle.sm_names.proofs.named_rows.NamedRows.put_guess.Goals as goal

@@ -1,6 +1,6 @@
 use Rattle.std.proofs.Common.{ap, arith}
 use Rattle.std.proofs.lemmas.List.{get_or_read}
-use Rattle.sm_history.specs.declared.replay.named_row.NamedRow.{NamedRow}
+use Rattle.sm_history.specs.declared.named_row.NamedRow.{NamedRow}
 use Rattle.sm_names.specs.Orders.{no_row}
 use Rattle.sm_names.proofs.OrderLemmas.{at_of, read_at}
 use Rattle.sm_names.proofs.named_rows.NamedRows.service_at.Goals as goal

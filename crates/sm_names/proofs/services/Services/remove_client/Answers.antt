@@ -1,6 +1,6 @@
 use Rattle.std.specs.Prelude.{not, ◌==◌}
 use Rattle.std.proofs.lemmas.List.Sums.{length-filter, count_by-le-length}
-use Rattle.sm_history.specs.declared.replay.named_row.NamedRow.{NamedRow}
+use Rattle.sm_history.specs.declared.named_row.NamedRow.{NamedRow}
 use Rattle.sm_history.proofs.AfterNamedRows.{names_die}
 use Rattle.sm_names.proofs.services.Services.remove_client.Goals as goal
 

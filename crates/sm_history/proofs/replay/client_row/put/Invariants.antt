@@ -1,6 +1,0 @@
-use Rattle.std.proofs.Common.{◌≡◌, ℕ, length}
-use Rattle.sm_history.specs.Tables.{slot}
-use Rattle.sm_history.proofs.replay.client_row.put.Given as goal
-
-abbrev pub invariant-loop-i : goal.invariant-loop-i
-invariant-loop-i l = ((j : ℕ) → slot l.slots.items j ≡ slot l.fn.slots.items j) × (length l.slots.items ≡ l.i)

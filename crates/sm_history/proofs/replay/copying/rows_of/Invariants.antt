@@ -1,6 +1,0 @@
-use Rattle.std.proofs.Common.{take}
-use Rattle.sm_history.specs.Tables.{AreSameRows}
-use Rattle.sm_history.proofs.replay.copying.rows_of.Given as goal
-
-abbrev pub invariant-loop-row : goal.invariant-loop-row
-invariant-loop-row l = AreSameRows (take l.row-index l.fn.rows) l.copies.items

@@ -1,7 +1,0 @@
-use Rattle.std.proofs.Common.{◌≡◌, ◌++◌, map, take}
-use Rattle.sm_history.specs.Turning.{admin, made}
-use Rattle.sm_history.proofs.replay.turning.Turning.push_admins.Given as goal
-
-abbrev pub invariant-loop-number : goal.invariant-loop-number
-invariant-loop-number l = l.rows.items ≡ l.fn.rows.items
-    ++ map (λ a. record { by = admin a; turns = made l.fn.self (admin a) }) (take l.number-index l.fn.self.order.items)

@@ -1,0 +1,9 @@
+pub mod AfterClientRows
+pub mod EnteringSteps
+pub mod CountsBefore
+pub mod EnteringLoops
+pub mod EnteringEvents
+pub mod SameTables
+pub mod TurnsCounted
+pub mod ReplaySteps
+pub mod ReplayRuns

@@ -1,0 +1,18 @@
+use Rattle.std.proofs.Common.{◌≡◌, None, ap}
+use Rattle.sm_history.specs.Tables.{client_row_of}
+use Rattle.sm_replay.proofs.AfterClientRows.{live_row, tracks_releases}
+use Rattle.sm_replay.proofs.live.release_of.Goals as goal
+
+pub returns-in_default : goal.returns-in_default
+returns-in_default c d n s tr there may =
+    let none : client_row_of c.args.live.now.items c.args.client ≡ None =
+    rw (← c.deref.ensures.value) c.in_default.ensures in
+    absurd (live_row d c.args.live.now.items c.args.client tr may.0 none)
+
+pub returns : goal.returns
+returns c d n s tr there may =
+    let at = rw c.deref.ensures.value at c.in-Some.ensures in
+    tracks_releases d c.args.live.now.items c.args.client c.in-Some.i n c.args.number
+    c.index_mut.result.now c.release.new.row s may there at c.index_mut.ensures.value
+    c.in_ok-release.ensures.client c.in_ok-release.ensures.who (ap (λ v. v.items) c.in_ok-release.ensures.waiting)
+    c.in_ok-release.ensures.held tr

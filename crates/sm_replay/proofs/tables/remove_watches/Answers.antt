@@ -1,0 +1,9 @@
+use Rattle.std.proofs.Common.{rules}
+use Rattle.std.specs.Prelude.{not, ◌==◌}
+use Rattle.std.proofs.lemmas.Fn.{filter_same}
+use Rattle.sm_history.specs.declared.effect.Watch.{Watch}
+use Rattle.sm_replay.proofs.tables.remove_watches.Goals as goal
+
+pub returns : goal.returns
+returns c = filter_same _ (λ (w : Watch). not (c.args.client == w.client)) _ (λ x b f' k. search rules) _ _
+    c.retain.ensures.filtered
