@@ -8,7 +8,7 @@ use Rattle.sm_policy.specs.Policy.{Policy}
 use Rattle.sm_history.specs.declared.effect.Watch.{Watch}
 use Rattle.sm_history.specs.Agreeing.{Agree}
 use Rattle.sm_history.specs.Effects.{Effects}
-use Rattle.sm_history.specs.Clients.{connected, identity_at, is_live, manager_at}
+use Rattle.sm_history.specs.Clients.{connected, identity_at, is_live, manager_at, policy_at}
 use Rattle.sm_history.specs.Holdings.{refs_at}
 use Rattle.sm_history.specs.Rows.{resumed, rows_at}
 use Rattle.sm_history.specs.Sound.{Sound}
@@ -31,7 +31,7 @@ use Rattle.sm_core.specs.declared.principals.Principals.{Principals}
 use Rattle.sm_core.specs.declared.process.Process.{Process}
 use Rattle.sm_core.specs.declared.state.State.{State}
 use Rattle.sm_core.specs.Stands.{Stands, StandPrincipals}
-use Rattle.sm_core.specs.Tables.{process_under, process_at, client_row, client_rows}
+use Rattle.sm_core.specs.Tables.{process_under, process_at, client_row, client_rows, row_of}
 
 lt_test : (a : ℕ) → 0 < a → nat_lt 0 a ≡ true
 lt_test a h = grind (arith, nat_tests)
@@ -102,9 +102,9 @@ map_filtered p f g (k ∷ ks) same =
 rows_alike : (d e : Effects) → Agree d e → client_rows d ≡ client_rows e
 rows_alike d e a =
     map_filtered (is_live d) (client_row d) (client_row e) (reverse (filter_map connected d)) (λ k live.
-    ap (λ (who : Identity). let r : LiveClient = record { id = k; process = process_at d who } in r) (a.who k live)
-    ∙ ap (λ (p : Process). let r : LiveClient = record { id = k; process = p } in r)
-    (process_alike d e (identity_at e k) a))
+    ap (λ (who : Identity). row_of (policy_at d) (manager_at d) k who) (a.who k live)
+    ∙ ap (λ (p : Policy). row_of p (manager_at d) k (identity_at e k)) a.policy
+    ∙ ap (λ (m : Identity). row_of (policy_at e) m k (identity_at e k)) a.manager)
     ∙ ap (map (client_row e)) a.live_list
 
 pub principals_alike : (d e : Effects) (p : Principals) → Agree d e → StandPrincipals d p → StandPrincipals e p

@@ -104,9 +104,12 @@ impl Principals {
     /// Sets the manager's process.
     pub fn open(&mut self, who: Identity)
         ensures stand { (d : Effects) → StandPrincipals d self.old → StandPrincipals (Opens who ∷ d) self.new }
-        ensures kept { (self.new.clients ≡ self.old.clients) × (self.new.version ≡ self.old.version) }
+        ensures kept { (vec_capacity self.new.clients ≡ vec_capacity self.old.clients)
+            × (length self.new.clients.items ≡ length self.old.clients.items)
+            × (self.new.version ≡ self.old.version) }
     {
         self.manager = Process::new(who, &self.policy);
+        renumber(&mut self.clients, &self.policy, &self.manager);
     }
 
     /// Puts a policy in force: each type gets the number that it has there.
@@ -118,7 +121,7 @@ impl Principals {
             × (length self.new.clients.items ≡ length self.old.clients.items) }
     {
         self.manager.renumber(&policy);
-        renumber(&mut self.clients, &policy);
+        renumber(&mut self.clients, &policy, &self.manager);
         self.policy = policy;
         self.version += 1;
     }
@@ -132,11 +135,8 @@ impl Principals {
             × (length self.new.clients.items ≡ length self.old.clients.items + 1)
             × (self.new.version ≡ self.old.version) }
     {
-        let process = Process::new(who, &self.policy);
-        self.clients.push_reserved(LiveClient {
-            id: client,
-            process,
-        });
+        let row = LiveClient::new(client, who, &self.policy, &self.manager);
+        self.clients.push_reserved(row);
     }
 
     /// Removes a client.

@@ -4,10 +4,11 @@ ghost use Rattle.std.specs.Prelude.{◌≡◌, None, Some};
 ghost use Rattle.sm_values.specs.declared.class.Class.TheVariants.{Binder, ServiceManager};
 ghost use Rattle.sm_history.specs.Clients.{manager_at, label_at};
 ghost use Rattle.sm_core.specs.Judging.{IsRuled};
-ghost use Rattle.sm_core.specs.Tables.{process_at, IsLabel};
+ghost use Rattle.sm_core.specs.Tables.{client_row, process_at, IsLabel};
 ghost use Rattle.sm_core.specs.Managed.{effects_in, moment_in};
 
 use crate::access::Access;
+use crate::client::LiveClient;
 use crate::ledger::Ledger;
 use crate::process::Process;
 use crate::refusing::Checked;
@@ -28,14 +29,27 @@ impl Ledger {
         }
     }
 
-    /// Checks a permission of Binder from a process to the manager.
+    /// Checks a permission of Binder from a client to the manager.
     #[inline(always)]
     pub fn check_to_manager(
         &self,
-        who: &Process,
+        row: &LiveClient,
         perm: Perms,
         notes: &mut Vec<Record>,
     ) -> Checked<()>
+        requires { row.now ≡ client_row (effects_in self.now) row.now.id }
+        ensures { IsRuled (moment_in self.now) notes.old.items notes.new.items Binder perm row.now.process.who
+            (manager_at (effects_in self.now)).context None result }
+    {
+        if row.to_manager.grants(perm) {
+            return Ok(());
+        }
+        self.settle_to_manager(&row.process, perm, notes)
+    }
+
+    /// As `check_to_manager`, by the policy. Few checks need it, so this is out of line.
+    #[inline(never)]
+    fn settle_to_manager(&self, who: &Process, perm: Perms, notes: &mut Vec<Record>) -> Checked<()>
         requires { who.now ≡ process_at (effects_in self.now) who.now.who }
         ensures { IsRuled (moment_in self.now) notes.old.items notes.new.items Binder perm who.now.who
             (manager_at (effects_in self.now)).context None result }
@@ -45,9 +59,27 @@ impl Ledger {
             .to_process(who, manager, Class::Binder, perm, notes)
     }
 
-    /// Checks a permission of Binder from the manager to a process.
+    /// Checks a permission of Binder from the manager to a client.
     #[inline(always)]
     pub fn check_from_manager(
+        &self,
+        row: &LiveClient,
+        perm: Perms,
+        notes: &mut Vec<Record>,
+    ) -> Checked<()>
+        requires { row.now ≡ client_row (effects_in self.now) row.now.id }
+        ensures { IsRuled (moment_in self.now) notes.old.items notes.new.items Binder perm
+            (manager_at (effects_in self.now)) row.now.process.who.context None result }
+    {
+        if row.from_manager.grants(perm) {
+            return Ok(());
+        }
+        self.settle_from_manager(&row.process, perm, notes)
+    }
+
+    /// As `check_from_manager`, by the policy. Few checks need it, so this is out of line.
+    #[inline(never)]
+    fn settle_from_manager(
         &self,
         who: &Process,
         perm: Perms,

@@ -39,7 +39,7 @@ impl Ledger {
             (Add name.now obj allow_isolated dump) result }
     {
         let notes = &mut draft.records;
-        self.check_to_manager(&row.process, Perms::CALL, notes)?;
+        self.check_to_manager(row, Perms::CALL, notes)?;
         let reference = self.judge_reference(row, obj, notes)?;
         let label = self.state.principals.policy.labelled(name.bytes());
         let node = self.judge_service(row, name, label, reference, notes)?;
@@ -91,7 +91,7 @@ impl Ledger {
         if node.is_none() {
             return Err(failed(Failure::BadHandle));
         }
-        self.check_to_manager(&row.process, Perms::TRANSFER, notes)?;
+        self.check_to_manager(row, Perms::TRANSFER, notes)?;
         Ok(node)
     }
 

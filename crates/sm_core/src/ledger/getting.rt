@@ -27,7 +27,7 @@ impl Ledger {
         let notes = &mut draft.records;
         let found = self.state.names.get(name.bytes());
         let service = self.visible(row, name, found, notes)?;
-        self.check_from_manager(&row.process, Perms::TRANSFER, notes)?;
+        self.check_from_manager(row, Perms::TRANSFER, notes)?;
         if service.node.owner.0 == row.id {
             return Err(Reply::GotOwn(service.node.object));
         }
@@ -55,7 +55,7 @@ impl Ledger {
             (sight_checks (effects_in self.now) row.now.id name.now found)
             (λ service. found ≡ Some service) result }
     {
-        self.check_to_manager(&row.process, Perms::CALL, notes)?;
+        self.check_to_manager(row, Perms::CALL, notes)?;
         if is_isolated(row.process.who.uid) && found.is_some_and(|s| !s.allow_isolated) {
             let denial = Denial::Isolated(row.process.who.uid);
             return Err(self.access().barred(denial, &row.process.who, name, notes)?);

@@ -118,8 +118,8 @@ impl Ledger {
             unreachable!();
         };
         self.check_to_known_label(&row.process, &watch.name, label, Perms::FIND, notes)?;
-        self.check_from_manager(&row.process, Perms::CALL, notes)?;
-        self.check_from_manager(&row.process, Perms::TRANSFER, notes)?;
+        self.check_from_manager(row, Perms::CALL, notes)?;
+        self.check_from_manager(row, Perms::TRANSFER, notes)?;
         if left == 0 {
             return Err(failed(Failure::TargetFull));
         }

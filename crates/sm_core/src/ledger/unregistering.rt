@@ -31,7 +31,7 @@ impl Ledger {
         ensures { Judged self.now.book.history draft.old draft.new row.now.id (Unregister name.now obj) result }
     {
         let notes = &mut draft.records;
-        self.check_to_manager(&row.process, Perms::CALL, notes)?;
+        self.check_to_manager(row, Perms::CALL, notes)?;
         let node = self.judge_reference(row, obj, notes)?;
         self.judge_removal(row, name, node, notes)?;
         draft.effects.push(Effect::Removes {

@@ -65,8 +65,8 @@ impl Ledger {
             (watch_checks (effects_in self.now) row.now.id name.now)
             (λ done. nat_lt (length (watches_at (effects_in self.now))) MOST_WATCHES ≡ true) result }
     {
-        self.check_to_manager(&row.process, Perms::CALL, notes)?;
-        self.check_to_manager(&row.process, Perms::TRANSFER, notes)?;
+        self.check_to_manager(row, Perms::CALL, notes)?;
+        self.check_to_manager(row, Perms::TRANSFER, notes)?;
         self.check_to_label(&row.process, name, Perms::FIND, notes)?;
         if is_isolated(row.process.who.uid) {
             let denial = Denial::Isolated(row.process.who.uid);
@@ -104,8 +104,8 @@ impl Ledger {
         ensures { Judged self.now.book.history draft.old draft.new row.now.id (Unwatch name.now object) result }
     {
         let notes = &mut draft.records;
-        self.check_to_manager(&row.process, Perms::CALL, notes)?;
-        self.check_to_manager(&row.process, Perms::TRANSFER, notes)?;
+        self.check_to_manager(row, Perms::CALL, notes)?;
+        self.check_to_manager(row, Perms::TRANSFER, notes)?;
         self.check_to_label(&row.process, name, Perms::FIND, notes)?;
         if !self.is_watching(row.id, name.bytes(), object) {
             return Err(excepted(Exception::NothingToUnregister));

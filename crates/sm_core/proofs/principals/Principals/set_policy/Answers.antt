@@ -1,7 +1,7 @@
 use Rattle.std.proofs.Common.{◌+◌, ap, refl, ◌∙◌}
 use Rattle.sm_core.specs.declared.process.Process.{Process}
 use Rattle.sm_core.specs.Tables.{process_under}
-use Rattle.sm_core.proofs.Renumbering.{clients_sets}
+use Rattle.sm_core.proofs.Renumbering.{rows_set}
 use Rattle.sm_core.proofs.principals.Principals.set_policy.Goals as goal
 
 pub returns-clause-stand : goal.returns-clause-stand
@@ -9,5 +9,6 @@ returns-clause-stand c d s = record {
   manager = c.renumber.ensures ∙ ap (λ (p : Process). process_under c.args.policy p.who) s.manager;
   policy = refl;
   version = ap (λ n. n + 1) s.version;
-  clients = c.renumber-2.ensures.under ∙ clients_sets d c.args.policy s.clients;
+  clients = c.renumber-2.ensures.under
+      ∙ rows_set d c.args.policy c.args.self.now.manager c.renumber.new.self c.renumber.ensures s.manager s.clients;
 }
