@@ -4,6 +4,7 @@ import errno
 import os
 import re
 import resource
+import select
 import signal
 import time
 
@@ -44,6 +45,35 @@ def systemd_that_takes_nothing(program):
         with Server(program, folder, env=os.environ | {"NOTIFY_SOCKET": name}) as server:
             with server.listens().client() as client:
                 talk(client, (HELLO, "client 1"))
+
+
+@check
+def watchdog(program, shim):
+    """systemd is told in time, and again and again, that a server lives, until the server ends."""
+    seconds, times = 4, 3
+    env = with_accept_error(shim, errno.EBADF) | {"WATCHDOG_USEC": f"{seconds}000000"}
+    own = ("sh", "-c", 'WATCHDOG_PID=$$ exec "$@"', "sh")
+    with room() as folder, supervisor(name := f"{folder}/supervisor") as told:
+        with Server(program, folder, before=own, env=env | {"NOTIFY_SOCKET": name}) as server:
+            expect(told.recv(100), b"READY=1", "systemd is told")
+            for _ in range(times):
+                began = time.monotonic()
+                expect(told.recv(100), b"WATCHDOG=1", "systemd is told")
+                expect(seconds / 4 < time.monotonic() - began < seconds, True, "it is told in time")
+            server.client().stream.close()
+            server.has_ended(seconds)
+
+
+@check
+def watchdog_of_others(program):
+    """systemd isn't told that a server lives, if it asks another process or says no time."""
+    others = {"WATCHDOG_PID": "1"}, {"WATCHDOG_PID": "x"}, {"WATCHDOG_USEC": "-200000"}, {"WATCHDOG_USEC": "0"}
+    with room() as folder, supervisor(name := f"{folder}/supervisor") as told:
+        for other in others:
+            env = os.environ | {"NOTIFY_SOCKET": name, "WATCHDOG_USEC": "200000"} | other
+            with Server(program, folder, env=env):
+                expect(told.recv(100), b"READY=1", "systemd is told")
+                expect(bool(select.select([told], [], [], 0.5)[0]), False, f"with {other} systemd is told more")
 
 
 # Starts a program whose standard error is a stream of systemd's journal, by the variable that names it.

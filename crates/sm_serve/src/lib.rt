@@ -9,6 +9,7 @@ mod attending;
 mod crowd;
 mod entrance;
 mod faults;
+mod heartbeat;
 mod level;
 mod live;
 mod log_lines;

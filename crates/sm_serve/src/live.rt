@@ -51,11 +51,8 @@ impl Drop for Connected {
     }
 }
 
-/// Milliseconds between two looks at the number of threads.
-const PAUSE: u64 = 100;
-
-/// Looks in a second.
-const LOOKS: u64 = 10;
+/// Microseconds between two looks at the number of threads.
+const LOOK: u64 = 100_000;
 
 impl Live {
     /// Makes an empty list.
@@ -118,13 +115,25 @@ impl Live {
     /// Waits until all threads have ended, for this number of seconds at most. Then the connections that are open, and
     /// those that begin later, are shut down.
     pub fn cut_off<R: Wait + Clock>(&self, rt: &R, seconds: u64) {
-        for _ in 0..seconds.saturating_mul(LOOKS) {
-            if self.threads.load(Ordering::SeqCst) == 0 {
-                return;
-            }
-            thread::sleep(rt, Duration::from_millis(PAUSE));
+        if !self.ends_within(rt, seconds.saturating_mul(1_000_000)) {
+            self.shut_down(rt);
         }
-        self.shut_down(rt);
+    }
+
+    /// Waits until all threads have ended, for this number of microseconds at most. Returns whether they have.
+    pub fn ends_within<R: Wait + Clock>(&self, rt: &R, microseconds: u64) -> bool {
+        for _ in 0..microseconds / LOOK {
+            if self.has_ended() {
+                return true;
+            }
+            thread::sleep(rt, Duration::from_micros(LOOK));
+        }
+        thread::sleep(rt, Duration::from_micros(microseconds % LOOK));
+        self.has_ended()
+    }
+
+    fn has_ended(&self) -> bool {
+        self.threads.load(Ordering::SeqCst) == 0
     }
 
     fn shut_down<R: Wait>(&self, rt: &R) {

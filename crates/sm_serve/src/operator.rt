@@ -17,4 +17,11 @@ pub enum Milestone {
 pub trait Operator: Supervisor {
     /// Hears of a milestone, from any thread. The client's reply waits for it, so it must not block.
     fn reach(&self, milestone: Milestone);
+
+    /// Returns the microseconds between two calls of `beat`, or `None` if there are to be none.
+    fn heartbeat(&self) -> Option<u64>;
+
+    /// Hears from a thread of its own that the manager's lock was taken and the shared view was read since the last
+    /// call. While one of them doesn't come, there is no call.
+    fn beat(&self);
 }

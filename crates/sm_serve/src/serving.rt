@@ -10,6 +10,7 @@ use crate::arriving::arrival;
 use crate::crowd::Crowd;
 use crate::entrance::Entrance;
 use crate::faults::Faults;
+use crate::heartbeat::beat;
 use crate::operator::Operator;
 use crate::patience::Patience;
 use crate::queue::{Arrivals, Queue, queue_of};
@@ -45,7 +46,7 @@ pub struct Numbers {
 /// Accepts the connections of each kind, and returns when their sessions have ended. Clients' connections are served by
 /// a thread for each worker's account, one connection at a time each; administrators' by one more thread, one after
 /// another, all under `admin`. Seals that are due are made under `sealer`. The supervisor is notified when all threads
-/// run. Where the ringer has bells, a `take` waits for a delivery. All accounts are added to `gathered`, which is
+/// run. If it wants a heartbeat, one more thread makes it, under `sealer`, too. Where the ringer has bells, a `take` waits for a delivery. All accounts are added to `gathered`, which is
 /// returned: its connections are parts of one lawful history, which begins with the one of the door's opening. Its
 /// chronicle also counts the connections that were turned away. The result is an error if a listener failed for good, a
 /// thread couldn't be started or an allocation failed; then the entrances are closed, and the connections that have
@@ -186,6 +187,12 @@ fn run_threads<
         if started.is_err() {
             faults.miss_thread(rt, common.host);
         }
+        if let Some(microseconds) = common.host.heartbeat() {
+            let started = scope.spawn(move || watch(rt, common, microseconds));
+            if started.is_err() {
+                faults.note(rt, common.host, ServeFault::NoThread);
+            }
+        }
         let crowd = Crowd::new(common.alloc, clients, numbers.workers, numbers.clients);
         admit(rt, crowd, &common.queue, to, common.host, faults);
         faults.end_connections(rt, common.patience.end);
@@ -203,6 +210,22 @@ fn work<J: Naming, K: Chronicle, G: Gate + Drop, H: Operator, R: Wait + Clock>(
         accounts.add(rt, common.door, account);
     }
     common.faults.live().end_thread();
+}
+
+/// Notifies the operator that the server answers, until the other threads have ended.
+fn watch<J: Naming, G: Gate + Drop, H: Operator, R: Wait + Clock>(
+    rt: &R,
+    common: &Common<'_, J, G, H>,
+    microseconds: u64,
+) {
+    beat(
+        rt,
+        common.door,
+        &common.sealer,
+        common.host,
+        common.faults.live(),
+        microseconds,
+    );
 }
 
 /// Serves connections from the queue at this account's seat, until no more come.

@@ -2,7 +2,7 @@
 
 use crate::journald::is_journal;
 use crate::standard_error::StandardError;
-use crate::systemd::tell_systemd;
+use crate::systemd::{tell_systemd, watchdog_interval};
 use crate::waking::{ListenerAddress, address_of, wake};
 use sm_command::{Sockets, VERSION};
 use sm_connection::{ServerEvent, Supervisor};
@@ -66,13 +66,15 @@ pub struct Console<'a, R> {
     form: LogForm,
     // Whether audit records are logged.
     audits: bool,
+    // The microseconds between two notices to systemd's watchdog.
+    heartbeat: Option<u64>,
     // The clients that were connected so far.
     connected: AtomicU64,
 }
 
 impl<'a, R> Drop for Console<'a, R> {
     fn drop(self) {
-        drop_fields!(self: host, rt, listening, clients, admins, log, form, audits, connected);
+        drop_fields!(self: host, rt, listening, clients, admins, log, form, audits, heartbeat, connected);
     }
 }
 
@@ -102,6 +104,7 @@ impl<'a, R: Wait> Console<'a, R> {
             log,
             form,
             audits: sockets.audit,
+            heartbeat: watchdog_interval(host),
             connected: AtomicU64::new(0),
         };
         Ok((console, lines))
@@ -191,6 +194,14 @@ impl<'a, R: Wait> Operator for Console<'a, R> {
         };
         self.log
             .append(self.rt, Level::Warning, LogLines::Fixed(line));
+    }
+
+    fn heartbeat(&self) -> Option<u64> {
+        self.heartbeat
+    }
+
+    fn beat(&self) {
+        tell_systemd(self.host, b"WATCHDOG=1");
     }
 }
 

@@ -2,6 +2,7 @@
 
 ghost use Rattle.std.specs.Prelude.{◌≡◌, ◌+◌, ◌≤◌, length};
 
+use crate::settings::{Setting, is_own, read_setting};
 use libc::net as c;
 use std::env::Env;
 
@@ -13,6 +14,26 @@ const MOST_NAME: usize = 107;
 
 /// How long systemd may take, in seconds.
 const PATIENCE: u64 = 5;
+
+/// The variable with the microseconds after which systemd's watchdog ends a server that says nothing.
+const WATCHDOG_TIME: &str = "WATCHDOG_USEC";
+
+/// The variable with the number of the process that is to say it. Without it each one is.
+const WATCHDOG_PROCESS: &str = "WATCHDOG_PID";
+
+/// Returns the microseconds between two notices that the watchdog expects of this process: half of its time. `None` if
+/// it expects none.
+pub fn watchdog_interval(host: &HostRuntime) -> Option<u64> {
+    match read_setting(host, WATCHDOG_PROCESS) {
+        Setting::Absent => {}
+        Setting::Number(process) if is_own(process) => {}
+        _ => return None,
+    }
+    match read_setting(host, WATCHDOG_TIME) {
+        Setting::Number(time) if time > 1 => Some(time / 2),
+        _ => None,
+    }
+}
 
 /// Tells systemd a state of the server, if it waits for that. A state that it doesn't take in time is lost.
 pub fn tell_systemd(host: &HostRuntime, state: &[u8]) {

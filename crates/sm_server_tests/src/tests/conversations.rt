@@ -148,7 +148,11 @@ fn the_account_tells_what_went_over_the_wire(rt: HostRuntime) -> Result<(), Fail
     let numbers = numbers(16, CLIENTS, ADMINISTRATORS);
     let (visits, exchange) = connected(&rt, rt.alloc(), numbers, steps)?;
     let ended = at_a_door_with_chronicle(&rt, rt.alloc(), 1000, NoGate, visits, exchange);
-    let Ended { left, chronicle } = ended;
+    let Ended {
+        left,
+        beats: _,
+        chronicle,
+    } = ended;
     let heard = Heard {
         // Those of `DENIALS`, and that of a list.
         records: 4,

@@ -2,8 +2,8 @@
 
 use super::differences::is_left;
 use super::server::{
-    ALL_IS_WELL, ENDED_BY_ITS_LISTENER, HELLO, Heard, LISTENING, Left, at_a_door, filled, holds,
-    numbers,
+    ALL_IS_WELL, ENDED_BY_ITS_LISTENER, HELLO, Heard, LISTENING, Left, at_a_door,
+    at_a_door_with_chronicle, filled, holds, numbers,
 };
 use super::steps::Step::{self, Close, Flood, Over, Repeat, Say};
 use super::steps::connected;
@@ -205,6 +205,20 @@ fn a_client_may_wait_between_its_requests(rt: HostRuntime) {
     let mut numbers = numbers(2, 2, 0);
     numbers.patience.hello = 1;
     holds(&rt, rt.alloc(), 1000, numbers, A_SLOW_CLIENT, LISTENING);
+}
+
+#[test]
+fn a_heart_beats_while_a_server_runs(rt: HostRuntime) -> Result<(), Fail> {
+    let steps = A_SLOW_CLIENT;
+    let mut numbers = numbers(2, 2, 0);
+    numbers.patience.hello = 1;
+    let (mut visits, exchange) = connected(&rt, rt.alloc(), numbers, steps)?;
+    visits.heartbeat = Some(300_000);
+    let ended = at_a_door_with_chronicle(&rt, rt.alloc(), 1000, NoGate, visits, exchange);
+    // One of the connections lasts for a second.
+    assert!(&rt; ended.beats >= 2);
+    is_left(&rt, rt.alloc(), &[steps], ended.left, ALL_IS_WELL);
+    Ok(())
 }
 
 /// A client that watches a name more often than the journal has room for, and an administrator.

@@ -112,12 +112,16 @@ pub struct Ear {
     short: AtomicU64,
     records: AtomicU64,
     closed: AtomicU64,
+    heartbeat: Option<u64>,
+    beats: AtomicU64,
 }
 
 impl Ear {
-    /// Makes one that has heard nothing.
-    pub fn new() -> Ear {
+    /// Makes one that has heard nothing, and wants a heartbeat of this many microseconds.
+    pub fn new(heartbeat: Option<u64>) -> Ear {
         Ear {
+            heartbeat,
+            beats: AtomicU64::new(0),
             listening: AtomicU64::new(0),
             delayed: AtomicU64::new(0),
             failed: AtomicU64::new(0),
@@ -176,6 +180,14 @@ impl Supervisor for Ear {
 
 impl Operator for Ear {
     fn reach(&self, _milestone: Milestone) {}
+
+    fn heartbeat(&self) -> Option<u64> {
+        self.heartbeat
+    }
+
+    fn beat(&self) {
+        self.beats.fetch_add(1, Ordering::SeqCst);
+    }
 }
 
 /// An exchange at the connections of a server while it runs.
@@ -201,6 +213,8 @@ pub struct Visits {
     pub clients: Waiting,
     pub admins: Waiting,
     pub numbers: Numbers,
+    /// The microseconds between two beats of the server's heart, if the supervisor wants to hear them.
+    pub heartbeat: Option<u64>,
 }
 
 /// How long a server waits here: longer than a test.
@@ -238,10 +252,11 @@ pub struct Left {
     pub ending: Result<(), ServeFault>,
 }
 
-/// What is left when a server has ended, and the chronicle of all its accounts.
+/// What is left when a server has ended, how often its heart beat, and the chronicle of all its accounts.
 #[derive(Drop)]
 pub struct Ended {
     pub left: Left,
+    pub beats: u64,
     pub chronicle: Remembers,
 }
 
@@ -366,8 +381,9 @@ fn serves<
         mut clients,
         admins,
         numbers,
+        heartbeat,
     } = visits;
-    let ear = Ear::new();
+    let ear = Ear::new(heartbeat);
     let talking = thread::spawn(rt, move || talk.run())
         .ok()
         .expect(rt, "a thread");
@@ -396,7 +412,12 @@ fn serves<
         heard: ear.heard(),
         ending,
     };
-    Ended { left, chronicle }
+    let beats = ear.beats.load(Ordering::SeqCst);
+    Ended {
+        left,
+        beats,
+        chronicle,
+    }
 }
 
 /// The accounts of workers at these seats.

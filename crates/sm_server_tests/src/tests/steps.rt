@@ -180,6 +180,7 @@ pub fn connected<R: Net + Abort>(
         clients,
         admins,
         numbers,
+        heartbeat: None,
     };
     let exchange = Exchange {
         alloc,
