@@ -107,7 +107,7 @@ class SelfLessItems(Policy):
 
     def rule(self, statement):
         rule = super().rule(statement)
-        found = LessRule(rule.line, rule.sources, rule.targets, rule.has_self, rule.accesses)
+        found = LessRule(rule.line, rule.words, rule.sources, rule.targets, rule.has_self, rule.accesses)
         minus = statement.target.minus
         found.less = [name for name in self.types if any(item in minus for item in [name] + self.attributes_of[name])]
         return found

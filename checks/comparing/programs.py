@@ -57,7 +57,7 @@ def commands(case):
         (["check", "--all", "--show", *FILES[:2]], "", lambda model: model.asks("check", *files, FILES[:2], True)),
     ]
     for question in case.questions:
-        more = {"diff": (case.new_rules, case.new_contexts, FILES), "rules": FILES[:1], "unused": FILES[:1]}
+        more = {"diff": (case.new_rules, case.new_contexts, FILES), "rules": FILES[:1], "unused": (FILES[:2],)}
         texts = (*files, *more.get(question[0], ()))
 
         def answer(model, question=question, texts=texts):

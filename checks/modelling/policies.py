@@ -256,8 +256,8 @@ def read_statements(text):
 class Rule:
     """A rule with its types and its accesses: pairs of a class and a permission of it."""
 
-    def __init__(self, line, sources, targets, has_self, accesses):
-        self.line, self.sources, self.targets = line, sources, targets
+    def __init__(self, line, words, sources, targets, has_self, accesses):
+        self.line, self.words, self.sources, self.targets = line, words, sources, targets
         self.has_self, self.accesses = has_self, accesses
 
     def covers(self, source, target, kind, perm):
@@ -271,6 +271,7 @@ class Policy:
 
     def __init__(self, rules_text, contexts_text):
         self.types, self.attributes, self.permissive = [], [], []
+        self.line_of_name = {}
         self.rules = {kind: [] for kind in RULES}
         if len(rules_text) > MOST_BYTES:
             raise Refused("rules: too large")
@@ -298,6 +299,7 @@ class Policy:
         name, line = statement.names[0], statement.line
         if name in self.types or name in self.attributes:
             raise Refused(f"rules: declared twice at line {line}", line)
+        self.line_of_name[name] = line
         if statement.kind == "type":
             self.types.append(name)
             self.attributes_of[name] = []
@@ -334,9 +336,9 @@ class Policy:
         for kind, perms in statement.selected():
             accesses += [(kind, perm) for perm in perms if statement.perms.has([perm])]
         has_self = "self" in statement.target.plus
-        return Rule(
-            statement.line, self.named(statement.source), self.named(statement.target), has_self, accesses
-        )
+        words = statement.source.words() + statement.target.words()
+        sources, targets = self.named(statement.source), self.named(statement.target)
+        return Rule(statement.line, words, sources, targets, has_self, accesses)
 
     def named(self, items):
         """The types that a set denotes."""

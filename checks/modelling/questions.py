@@ -5,7 +5,7 @@ Each gives what it writes to standard output and to standard error, and its stat
 import re
 from itertools import product
 
-from .lines import written
+from .lines import is_valid, written
 from .policies import CLASSES, MOST_BYTES, RULES, Policy, Refused, is_context, type_of, words_of
 
 ACCESSES = [(kind, perm) for kind, perms in CLASSES for perm in perms]
@@ -153,17 +153,42 @@ def covered_by(policy, rule):
     return {access for access in every_access(policy) if rule.covers(*access)}
 
 
-@asked
-def unused(kind, rules, contexts, path):
-    policy = read_policy(rules, contexts, kind)
-    granted, found, every = set(), [], rules.split("\n")
+def unused_rules(policy):
+    granted, found = set(), []
     for rule in policy.rules["allow"]:
         covered = covered_by(policy, rule)
         found += [("rule", rule.line)] if covered <= granted else []
         granted |= covered
-    found += [("dontaudit", rule.line) for rule in policy.rules["dontaudit"] if covered_by(policy, rule) <= granted]
-    told = lines(f"{word} {path}:{line}: {statement(every[line - 1 :])}" for word, line in found)
-    return told, "", 1 if found else 0
+    return found + [
+        ("dontaudit", rule.line) for rule in policy.rules["dontaudit"] if covered_by(policy, rule) <= granted
+    ]
+
+
+def unused_names(policy):
+    """The attributes and then the types that are of no use."""
+    words = {word for each in RULES for rule in policy.rules[each] for word in rule.words}
+    given = {name for names in policy.attributes_of.values() for name in names}
+    used = words | set(policy.permissive) | {type_of(context) for _, _, context in policy.entries}
+    for rule in policy.rules["allow"] + policy.rules["dontaudit"]:
+        used.update(rule.sources, rule.targets)
+    attributes = [("attribute", name) for name in policy.attributes if name not in given & words]
+    return attributes + [("type", name) for name in policy.types if name not in used]
+
+
+def unused_keys(policy):
+    """The lines and the keys of the entries that are of no use."""
+    added = {access[1] for access in every_access(policy) if access[3] == "add" and policy.is_allowed(*access)}
+    entries = [(line, key, type_of(context)) for line, key, context in policy.entries if key != "*"]
+    return [(line, key) for line, key, name in entries if not is_valid(key) or name not in added]
+
+
+@asked
+def unused(kind, rules, contexts, paths):
+    policy, every = read_policy(rules, contexts, kind), rules.split("\n")
+    found = [f"{word} {paths[0]}:{n}: {statement(every[n - 1 :])}" for word, n in unused_rules(policy)]
+    found += [f"{word} {paths[0]}:{policy.line_of_name[name]}: {name}" for word, name in unused_names(policy)]
+    found += [f"key {paths[1]}:{line}: {written(key)}" for line, key in unused_keys(policy)]
+    return lines(found), "", 1 if found else 0
 
 
 def record_of(line):

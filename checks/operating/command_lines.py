@@ -409,6 +409,11 @@ QUESTIONS = [
         "rule needless:36: allow untrusted_app activity_service:service_manager find;\n"
         "dontaudit needless:37: dontaudit untrusted_app activity_service:service_manager find;\n",
     ),
+    (
+        "unused declared keys",
+        1,
+        "attribute declared:36: nobody\ntype declared:37: nothing\nkey keys:4: %613a62\n",
+    ),
     ("diff rules labels rules labels", 0, ""),
     (
         "diff rules labels new newlabels",
@@ -475,6 +480,8 @@ def tour_in(folder):
         "devicelabels": LABELS,
         "permissive": TOUR + "permissive isolated_app;\n",
         "needless": TOUR + NEEDLESS,
+        "declared": TOUR + "attribute nobody;\ntype nothing;\n",
+        "keys": TOUR_LABELS + "a:b u:object_r:activity_service:s0\n",
         "refused": "permissive app;\n",
     }
     for name, text in texts.items():

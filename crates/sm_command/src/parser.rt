@@ -96,7 +96,7 @@ fn suggest<'a>(alloc: Global) -> Building<'a> {
 }
 
 fn unused<'a>(alloc: Global) -> Building<'a> {
-    let about = "Lists the rules of a policy that are of no use";
+    let about = "Lists the rules, attributes, types and keys of a policy that are of no use";
     with_files(alloc, Building::new(alloc, "unused", about))
 }
 

@@ -39,6 +39,7 @@ pub use filtering::{Filter, FilterOptions, Target, read_filter};
 pub use judging::check_all;
 pub use labelling::label;
 pub use listing::access;
+pub use lookups::byte_at;
 pub use quotes::Quotes;
 pub use rule_filter::{RuleFilter, RuleOptions, read_rule_filter};
 pub use rule_laws::{first_is_explained, words_leave_one};

@@ -10,6 +10,7 @@ mod type_count;
 mod types;
 
 pub use fault::TypesFault;
+pub use name_set::NameSet;
 pub use type_count::TypeCount;
 pub use types::Types;
 

@@ -1,5 +1,6 @@
 pub mod Adding
+pub mod Declared
 pub mod Lines
 pub mod Removed
-pub mod RuleByRule
 pub mod Rows
+pub mod RuleByRule

@@ -6,7 +6,7 @@ use Rattle.std.proofs.lemmas.Bool.{ne_eqb}
 use Rattle.std.proofs.lemmas.Bool.Decides.{nat_tests}
 use Rattle.sm_questions.specs.Differences.{is_any}
 use Rattle.sm_questions.specs.Shown.{shown_statement}
-use Rattle.sm_unused.specs.Unused.{word_line}
+use Rattle.sm_unused.specs.Unused.{found_lines, word_line}
 
 some_line : (b : ℕ) (bytes : List ℕ) → is_any (b ∷ bytes) ≡ true
 some_line b bytes = grind (arith, nat_tests)
@@ -15,18 +15,21 @@ some_rule : (n : ℕ) (rules : List ℕ) → nat_eq (length (n ∷ rules)) 0 ≡
 some_rule n rules = ne_eqb (length (n ∷ rules)) 0 (λ e. omega (arith, e))
 
 -- A line has at least the first byte of its word.
-lines : (b c : ℕ) (v w path text allows dontaudits : List ℕ)
-    → (nat_eq (length allows) 0 && nat_eq (length dontaudits) 0)
-    ≡ not (is_any (flat_map (word_line (b ∷ v) path text) allows ++ flat_map (word_line (c ∷ w) path text) dontaudits))
-lines b c v w path text [] [] = refl
-lines b c v w path text [] (n ∷ dontaudits) = rw (some_rule n dontaudits) (sym (ap not
-    (some_line c ((w ++ shown_statement path text n) ++ flat_map (word_line (c ∷ w) path text) dontaudits))))
-lines b c v w path text (n ∷ allows) dontaudits = rw (some_rule n allows) (sym (ap not (some_line b
+lines : (b c : ℕ) (v w path text allows dontaudits declared : List ℕ)
+    → ((nat_eq (length allows) 0 && nat_eq (length dontaudits) 0) && nat_eq (length declared) 0)
+    ≡ not (is_any (flat_map (word_line (b ∷ v) path text) allows ++ flat_map (word_line (c ∷ w) path text) dontaudits
+    ++ declared))
+lines b c v w path text [] [] [] = refl
+lines b c v w path text [] [] (d ∷ declared) = rw (some_rule d declared) (sym (ap not (some_line d declared)))
+lines b c v w path text [] (n ∷ dontaudits) declared = rw (some_rule n dontaudits) (sym (ap not (some_line c
+    (((w ++ shown_statement path text n) ++ flat_map (word_line (c ∷ w) path text) dontaudits) ++ declared))))
+lines b c v w path text (n ∷ allows) dontaudits declared = rw (some_rule n allows) (sym (ap not (some_line b
     (((v ++ shown_statement path text n) ++ flat_map (word_line (b ∷ v) path text) allows)
-    ++ flat_map (word_line (c ∷ w) path text) dontaudits))))
+    ++ flat_map (word_line (c ∷ w) path text) dontaudits ++ declared))))
 
--- There is no line if there is no rule.
-pub no_lines : (path text allows dontaudits : List ℕ) → (nat_eq (length allows) 0 && nat_eq (length dontaudits) 0)
-    ≡ not (is_any (flat_map (word_line (codes "rule ") path text) allows
-    ++ flat_map (word_line (codes "dontaudit ") path text) dontaudits))
-no_lines path text allows dontaudits = lines 114 100 (codes "ule ") (codes "ontaudit ") path text allows dontaudits
+-- There is no line if nothing was found.
+pub no_lines : (path text allows dontaudits declared : List ℕ)
+    → ((nat_eq (length allows) 0 && nat_eq (length dontaudits) 0) && nat_eq (length declared) 0)
+    ≡ not (is_any (found_lines path text allows dontaudits declared))
+no_lines path text allows dontaudits declared =
+    lines 114 100 (codes "ule ") (codes "ontaudit ") path text allows dontaudits declared

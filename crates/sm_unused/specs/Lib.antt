@@ -1,3 +1,5 @@
+pub mod Declarations
 pub mod Missing
 pub mod Removal
+pub mod Rows
 pub mod Unused

@@ -10,6 +10,7 @@ use Rattle.sm_rules.specs.Keeping.{class_at, perm_at, rules_in}
 use Rattle.sm_policy.specs.Policy.{Policy}
 use Rattle.sm_questions.specs.Accesses.{perm_numbers}
 use Rattle.sm_questions.specs.Shown.{shown_statement}
+use Rattle.sm_unused.specs.Declarations.{declaration_lines}
 
 -- Some of these rules covers an access, whose permission is given by its number.
 abbrev pub some_cover : List Statement → List (ℕ × Rule) → List ℕ → List ℕ → ℕ → Bool
@@ -46,12 +47,22 @@ unused_dontaudits policy =
 abbrev pub word_line : List ℕ → List ℕ → List ℕ → ℕ → List ℕ
 word_line word path text number = word ++ shown_statement path text number
 
--- These are the lines for some rules.
-abbrev pub rule_lines : List ℕ → List ℕ → List ℕ → List (ℕ × Rule) → List ℕ
-rule_lines word path text rules = flat_map (word_line word path text) (map (λ (r : ℕ × Rule). r.0) rules)
+-- These are the lines for rules that allow, for those that don't audit, and for declarations. The numbers are those of
+-- the rules' lines.
+abbrev pub found_lines : List ℕ → List ℕ → List ℕ → List ℕ → List ℕ → List ℕ
+found_lines path text allows dontaudits declared =
+    flat_map (word_line (codes "rule ") path text) allows
+    ++ flat_map (word_line (codes "dontaudit ") path text) dontaudits
+    ++ declared
 
--- These are the lines for the rules of a policy that are of no use. Its source is the file of this path and text.
-unfoldable pub unused_lines : List ℕ → List ℕ → Policy → List ℕ
-unused_lines path text policy =
-    rule_lines (codes "rule ") path text (unused_allows policy.statements)
-    ++ rule_lines (codes "dontaudit ") path text (unused_dontaudits policy.statements)
+-- These are the numbers of the lines of some rules.
+abbrev pub numbers_of : List (ℕ × Rule) → List ℕ
+numbers_of rules = map (λ (r : ℕ × Rule). r.0) rules
+
+-- These are the lines for the statements of a policy that are of no use. Its files have these paths, and its source has
+-- this text.
+unfoldable pub unused_lines : List ℕ → List ℕ → List ℕ → Policy → List ℕ
+unused_lines rules_path contexts_path text policy =
+    found_lines rules_path text
+    (numbers_of (unused_allows policy.statements)) (numbers_of (unused_dontaudits policy.statements))
+    (declaration_lines rules_path contexts_path policy)

@@ -107,11 +107,12 @@ fn try_ask_rules<'a>(
     }
 }
 
+#[tactic(auto, using(sm_questions::proofs::Sources::source_read))]
 fn try_ask_unused<'a>(rt: &HostRuntime, options: &Options<'a>) -> Result<ExitCode, Ending<'a>> {
     let source = text_of(rt, options.rules)?;
     let contexts = text_of(rt, options.contexts)?;
     match Prepared::from_texts(rt.alloc(), &source, &contexts) {
-        Ok(policy) => tell_unused(rt, &policy, options.rules, &source),
+        Ok(policy) => tell_unused(rt, &policy, options, &source),
         Err(fault) => {
             refuse(rt, &fault)?;
             Ok(ExitCode::from(NO_ANSWER))
@@ -271,15 +272,18 @@ fn tell_rules<'a>(
     listed(ended, writer.into_inner().is_closed())
 }
 
-/// Lists what is of no use in a policy, whose policy source has this path.
+/// Lists what is of no use in a policy of these files.
 fn tell_unused<'a>(
     rt: &HostRuntime,
     policy: &Prepared,
-    path: &str,
+    options: &Options<'a>,
     source: &[u8],
-) -> Result<ExitCode, Ending<'a>> {
+) -> Result<ExitCode, Ending<'a>>
+    requires { rules_of source.now ≡ Ok policy.now.statements }
+{
+    let (rules, contexts) = (options.rules.as_bytes(), options.contexts.as_bytes());
     let mut writer = Counted::new(Pipe::new(rt.stdout()));
-    let ended = unused(rt.alloc(), policy, path.as_bytes(), source, &mut writer);
+    let ended = unused(rt.alloc(), policy, rules, contexts, source, &mut writer);
     decided(ended, writer.into_inner().is_closed())
 }
 

@@ -113,14 +113,19 @@ fn lists_rules(rt: &impl Abort, alloc: Global) -> Option<()> {
 const NEEDLESS_RULE: &[u8] = b"allow untrusted_app activity_service:service_manager find;\n";
 
 const UNUSED_TOLD: &[u8] =
-    b"rule t.te:17: allow untrusted_app activity_service:service_manager find;\n";
+    b"rule t.te:17: allow untrusted_app activity_service:service_manager find;
+attribute t.te:1: domain
+";
 
-/// Lists a rule that grants an application what a rule above it grants.
+/// Lists a rule that grants an application what a rule above it grants, and an attribute that no rule names.
+#[tactic(auto, using(sm_questions::proofs::Sources::source_read))]
 fn lists_unused(rt: &impl Abort, alloc: Global) -> Option<()> {
     let rules = device_rules_with(alloc, NEEDLESS_RULE).ok()?;
-    let policy = prepared(rt, alloc, &rules)?;
+    let Ok(policy) = Prepared::from_texts(alloc, &rules, DEVICE_LABELS) else {
+        return None;
+    };
     let mut writer = Counted::new(Vec::new(alloc));
-    let fault = unused(alloc, &policy, b"t.te", &rules, &mut writer).err();
+    let fault = unused(alloc, &policy, b"t.te", b"t.fc", &rules, &mut writer).err();
     wrote(rt, fault, writer, UNUSED_TOLD)
 }
 

@@ -1,0 +1,9 @@
+use Rattle.std.proofs.Common.{◌≡◌, ℕ, List, take}
+use Rattle.std.specs.List.{list_any}
+use Rattle.std.specs.Str.{bytes_eq}
+use Rattle.sm_unused.specs.Declarations.{gives}
+use Rattle.sm_unused.proofs.words.given_attributes.Given as goal
+
+abbrev pub invariant-loop-statement : goal.invariant-loop-statement
+invariant-loop-statement l = (word : List ℕ) → list_any (bytes_eq word) l.words
+    ≡ list_any (λ s. gives word s.what) (take l.statement-index l.statements)
