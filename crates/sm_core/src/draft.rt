@@ -1,9 +1,9 @@
 //! Drafts of changes.
 
-ghost use Rattle.std.specs.Prelude.{◌≡◌, [], IsTrue};
+ghost use Rattle.std.specs.Prelude.{◌≡◌, ◌++◌, ◌∷◌, [], IsTrue, OnOk};
 
 use sm_history::{Effect, Record};
-use std::alloc::Global;
+use std::alloc::{AllocError, Global};
 
 /// An empty draft keeps memory for this many effects, and for as many records of each kind.
 const MOST_KEPT: usize = 64;
@@ -31,6 +31,16 @@ fn empty<T: Drop>(alloc: Global, list: &mut Vec<T>)
     } else {
         list.clear();
     }
+}
+
+/// Appends an effect. The place for it is made first, so that a failure needn't hand the effect back.
+#[inline(always)]
+pub fn add_effect(effects: &mut Vec<Effect>, effect: Effect) -> Result<(), AllocError>
+    ensures { OnOk result (effects.new.items ≡ effects.old.items ++ effect ∷ []) }
+{
+    effects.reserve(1)?;
+    effects.push_reserved(effect);
+    Ok(())
 }
 
 impl Draft {

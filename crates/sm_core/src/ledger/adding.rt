@@ -13,7 +13,7 @@ ghost use Rattle.sm_core.specs.Judging.{service_checks};
 ghost use Rattle.sm_core.specs.Managed.{effects_in, moment_in};
 
 use crate::client::LiveClient;
-use crate::draft::Draft;
+use crate::draft::{Draft, add_effect};
 use crate::ledger::Ledger;
 use crate::refusing::{Checked, excepted, failed};
 use sm_history::{Denial, Effect, Exception, Failure, Outcome, Record, Service};
@@ -50,10 +50,13 @@ impl Ledger {
             allow_isolated,
             dump,
         };
-        draft.effects.push(Effect::Adds {
-            name: copy,
-            service,
-        })?;
+        add_effect(
+            &mut draft.effects,
+            Effect::Adds {
+                name: copy,
+                service,
+            },
+        )?;
         let notices = self.notify_all(name.bytes(), node, label, draft)?;
         Ok(Outcome::Added(notices))
     }

@@ -18,7 +18,7 @@ ghost use Rattle.sm_core.specs.Calling.{Sends, gives_of, passing_checks, target_
 ghost use Rattle.sm_core.specs.Managed.{effects_in, moment_in};
 
 use crate::client::LiveClient;
-use crate::draft::Draft;
+use crate::draft::{Draft, add_effect};
 use crate::ledger::Ledger;
 use crate::refusing::{Checked, failed};
 use arrayvec::ArrayVec;
@@ -83,11 +83,14 @@ fn give(
     ensures { OnOk result (effects.new.items ≡ effects.old.items ++ gives_of receiver nodes.now numbers.now) }
 {
     for i in 0..nodes.len() {
-        effects.push(Effect::Gives {
-            client: receiver,
-            node: nodes[i],
-            number: numbers[i],
-        })?;
+        add_effect(
+            effects,
+            Effect::Gives {
+                client: receiver,
+                node: nodes[i],
+                number: numbers[i],
+            },
+        )?;
     }
     Ok(())
 }
@@ -295,10 +298,13 @@ impl Ledger {
         let given = given(self.alloc, owner, named, numbers)?;
         let delivery = delivery(self.alloc, &row.process.who, target.object, payload, given)?;
         let outcome = Outcome::Sent(delivery.clone()?);
-        draft.effects.push(Effect::Delivers {
-            client: owner,
-            delivery,
-        })?;
+        add_effect(
+            &mut draft.effects,
+            Effect::Delivers {
+                client: owner,
+                delivery,
+            },
+        )?;
         Ok(outcome)
     }
 }

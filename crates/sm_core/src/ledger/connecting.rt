@@ -3,7 +3,7 @@
 ghost use Rattle.sm_history.specs.declared.event.Event.TheVariants.{Connect};
 ghost use Rattle.sm_core.specs.Judging.{IsBlank, Judged};
 
-use crate::draft::Draft;
+use crate::draft::{Draft, add_effect};
 use crate::ledger::Ledger;
 use crate::refusing::Checked;
 use sm_history::{Effect, LAST_CLIENT, MOST_CLIENTS, Outcome, Refusal, Reply};
@@ -23,7 +23,7 @@ impl Ledger {
         }
         let who = who.clone()?;
         let client = self.state.next as u32;
-        draft.effects.push(Effect::Connects { client, who })?;
+        add_effect(&mut draft.effects, Effect::Connects { client, who })?;
         Ok(Outcome::Connected(ClientId(client)))
     }
 }

@@ -6,7 +6,7 @@ ghost use Rattle.sm_history.specs.Clients.{is_live};
 ghost use Rattle.sm_core.specs.Judging.{IsBlank, Judged};
 ghost use Rattle.sm_core.specs.Managed.{effects_in};
 
-use crate::draft::Draft;
+use crate::draft::{Draft, add_effect};
 use crate::ledger::Ledger;
 use crate::refusing::Checked;
 use sm_history::{Effect, Outcome};
@@ -19,7 +19,7 @@ impl Ledger {
         requires blank { IsBlank draft.old }
         ensures { Judged self.now.book.history draft.old draft.new client Die result }
     {
-        draft.effects.push(Effect::Dies { client })?;
+        add_effect(&mut draft.effects, Effect::Dies { client })?;
         Ok(Outcome::Died)
     }
 }

@@ -9,7 +9,7 @@ ghost use Rattle.sm_core.specs.Tables.{client_row};
 ghost use Rattle.sm_core.specs.Managed.{effects_in, moment_in};
 
 use crate::client::LiveClient;
-use crate::draft::Draft;
+use crate::draft::{Draft, add_effect};
 use crate::ledger::Ledger;
 use crate::refusing::{Checked, failed};
 use sm_history::{Denial, Effect, Failure, Outcome, Record, Reply, Service};
@@ -34,11 +34,14 @@ impl Ledger {
         let Some(number) = self.state.grants.number_if_room(row.id, service.node) else {
             return Err(failed(Failure::TargetFull));
         };
-        draft.effects.push(Effect::Gives {
-            client: row.id,
-            node: service.node,
-            number,
-        })?;
+        add_effect(
+            &mut draft.effects,
+            Effect::Gives {
+                client: row.id,
+                node: service.node,
+                number,
+            },
+        )?;
         Ok(Outcome::Granted(number))
     }
 

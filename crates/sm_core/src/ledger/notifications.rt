@@ -15,7 +15,7 @@ ghost use Rattle.sm_core.specs.Notifications.{told_checks, told_to, gives_of, le
 ghost use Rattle.sm_core.specs.Notifications.{AreNotifications, GoesOn, GoesFar, MayPrecede, TellsAll};
 ghost use Rattle.sm_core.specs.Tables.{IsLabel};
 
-use crate::draft::Draft;
+use crate::draft::{Draft, add_effect};
 use crate::inbox_rooms::InboxRooms;
 use crate::ledger::Ledger;
 use crate::refusing::{Checked, failed, reason};
@@ -54,11 +54,14 @@ fn give(effects: &mut Vec<Effect>, client: u32, node: Node, given: Given) -> Res
     ensures { OnOk result (effects.new.items ≡ effects.old.items ++ gives_of client node given) }
 {
     if let Given::Handle(number) = given {
-        effects.push(Effect::Gives {
-            client,
-            node,
-            number,
-        })?;
+        add_effect(
+            effects,
+            Effect::Gives {
+                client,
+                node,
+                number,
+            },
+        )?;
     }
     Ok(())
 }
@@ -151,7 +154,7 @@ impl Ledger {
         let client = watch.client;
         rooms.set(client, left - 1)?;
         give(&mut draft.effects, client, node, given)?;
-        draft.effects.push(Effect::Delivers { client, delivery })?;
+        add_effect(&mut draft.effects, Effect::Delivers { client, delivery })?;
         Ok(told)
     }
 

@@ -6,7 +6,7 @@ ghost use Rattle.sm_history.specs.Clients.{is_live};
 ghost use Rattle.sm_core.specs.Judging.{IsBlank, Judged};
 ghost use Rattle.sm_core.specs.Managed.{effects_in};
 
-use crate::draft::Draft;
+use crate::draft::{Draft, add_effect};
 use crate::ledger::Ledger;
 use crate::refusing::{Checked, failed};
 use sm_history::{Effect, Failure, Outcome};
@@ -23,7 +23,7 @@ impl Ledger {
         let Some(node) = self.resolved(client, ObjRef::Handle(handle)) else {
             return Err(failed(Failure::BadHandle));
         };
-        draft.effects.push(Effect::Releases { client, node })?;
+        add_effect(&mut draft.effects, Effect::Releases { client, node })?;
         draft.near = handle;
         Ok(Outcome::Released)
     }

@@ -3,7 +3,7 @@
 ghost use Rattle.sm_history.specs.declared.event.Event.TheVariants.{Reload};
 ghost use Rattle.sm_core.specs.Judging.{IsBlank, Judged};
 
-use crate::draft::Draft;
+use crate::draft::{Draft, add_effect};
 use crate::ledger::Ledger;
 use crate::refusing::Checked;
 use sm_history::{Effect, Outcome, Refusal, Reply};
@@ -26,7 +26,7 @@ impl Ledger {
         if version != expected {
             return Err(Reply::Refused(Refusal::VersionMoved(version)));
         }
-        draft.effects.push(Effect::Sets(prepared.share()?))?;
+        add_effect(&mut draft.effects, Effect::Sets(prepared.share()?))?;
         Ok(Outcome::Reloaded(version + 1))
     }
 }

@@ -7,7 +7,7 @@ ghost use Rattle.sm_history.specs.Inboxes.{inbox_at};
 ghost use Rattle.sm_core.specs.Judging.{IsBlank, Judged};
 ghost use Rattle.sm_core.specs.Managed.{effects_in};
 
-use crate::draft::Draft;
+use crate::draft::{Draft, add_effect};
 use crate::ledger::Ledger;
 use crate::refusing::Checked;
 use sm_history::{Delivery, Effect, Outcome, Refusal, Reply, Shared};
@@ -32,7 +32,7 @@ impl Ledger {
         let Some(oldest) = self.oldest(client) else {
             return Err(Reply::Refused(Refusal::Empty));
         };
-        draft.effects.push(Effect::Takes { client })?;
+        add_effect(&mut draft.effects, Effect::Takes { client })?;
         Ok(Outcome::Taken(oldest.clone()?))
     }
 }

@@ -9,7 +9,7 @@ ghost use Rattle.sm_core.specs.Judging.{IsBlank, Judged, removal_checks, Passes}
 ghost use Rattle.sm_core.specs.Managed.{effects_in, moment_in};
 
 use crate::client::LiveClient;
-use crate::draft::Draft;
+use crate::draft::{Draft, add_effect};
 use crate::ledger::Ledger;
 use crate::refusing::{Checked, excepted};
 use sm_history::{Effect, Exception, Outcome, Record};
@@ -34,9 +34,12 @@ impl Ledger {
         self.check_to_manager(row, Perms::CALL, notes)?;
         let node = self.judge_reference(row, obj, notes)?;
         self.judge_removal(row, name, node, notes)?;
-        draft.effects.push(Effect::Removes {
-            name: name.clone()?,
-        })?;
+        add_effect(
+            &mut draft.effects,
+            Effect::Removes {
+                name: name.clone()?,
+            },
+        )?;
         Ok(Outcome::Unregistered)
     }
 

@@ -13,7 +13,7 @@ ghost use Rattle.sm_core.specs.Judging.{IsBlank, Judged, PassesWith};
 ghost use Rattle.sm_core.specs.Managed.{effects_in, moment_in};
 
 use crate::client::LiveClient;
-use crate::draft::Draft;
+use crate::draft::{Draft, add_effect};
 use crate::ledger::Ledger;
 use crate::refusing::{Checked, excepted};
 use sm_history::{Denial, Effect, Exception, MOST_WATCHES, Outcome, Record, Watch, WatchPair};
@@ -49,7 +49,7 @@ impl Ledger {
     {
         self.judge_watching(row, name, &mut draft.records)?;
         let made = WatchPair::new(row.id, name, object)?;
-        draft.effects.push(Effect::Watches(made))?;
+        add_effect(&mut draft.effects, Effect::Watches(made))?;
         let Some(service) = self.state.names.get(name.bytes()) else {
             return Ok(Outcome::Watched(None));
         };
@@ -112,7 +112,7 @@ impl Ledger {
         }
         let ended = self.watching(row.id, name.bytes(), object);
         let watch = watch_of(row.id, name, object)?;
-        draft.effects.push(Effect::Unwatches(watch))?;
+        add_effect(&mut draft.effects, Effect::Unwatches(watch))?;
         Ok(Outcome::Unwatched(ended))
     }
 

@@ -43,7 +43,7 @@ returns c =
     let d = effects_of c.args.self.now.book.history in
     let k = c.args.row.now.id in
     let old = c.args.draft.now in
-    let mid : Draft = record old { effects = c.push.new.self; records = c.judge_service.new.notes } in
+    let mid : Draft = record old { effects = c.add_effect.new.effects; records = c.judge_service.new.notes } in
     let pass = c.in_ok-reference.ensures in (
       all_pass_behind m _ _ _ _ d k c.args.obj _ (naming_checks d k c.args.name.now c.args.obj) (search rules) pass.0
           (naming_is m _ _ d k c.args.name.now c.args.obj c.in_ok-reference.reference pass.0 pass.1)
@@ -51,5 +51,5 @@ returns c =
       add_drafted c.args.self.now.book.history k c.args.name.now c.in_ok-copy.copy c.args.obj
           c.args.allow_isolated c.args.dump c.in_ok-reference.reference c.in_ok-node.node mid _ _
           pass.1 c.in_ok-node.ensures.1.0 c.in_ok-copy.ensures.cases
-          (rw c.requires.blank.0 at c.in_ok-push.ensures.items) c.requires.blank.1 (search rules),
+          (rw c.requires.blank.0 at c.in_ok-add_effect.ensures) c.requires.blank.1 (search rules),
     )

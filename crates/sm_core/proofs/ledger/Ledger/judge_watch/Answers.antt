@@ -19,13 +19,13 @@ pub returns : goal.returns
 returns c =
     let d = effects_of c.args.self.now.book.history in
     let old = c.args.draft.now in
-    let mid : Draft = record old { effects = c.push.new.self; records = c.judge_watching.new.notes } in (
+    let mid : Draft = record old { effects = c.add_effect.new.effects; records = c.judge_watching.new.notes } in (
       search rules,
       watch_drafted c.args.self.now.book.history c.args.row.now.id c.args.name.now c.args.object
           c.in-Some.service c.in_ok-watch.watch c.in_ok-made.made mid _ c.in_ok-notice.notice
           (c.in-Some.ensures d (rw (← c.self.view_is) c.self.invariant.stands.names)
           ∙ ap (service_at d) c.bytes.ensures)
-          c.in_ok-watch.ensures c.in_ok-made.ensures (rw c.requires.blank.0 at c.in_ok-push.ensures.items)
+          c.in_ok-watch.ensures c.in_ok-made.ensures (rw c.requires.blank.0 at c.in_ok-add_effect.ensures)
           c.requires.blank.1 c.in_ok-notice.ensures,
     )
 
@@ -33,11 +33,11 @@ pub returns-in_default : goal.returns-in_default
 returns-in_default c =
     let d = effects_of c.args.self.now.book.history in
     let old = c.args.draft.now in
-    let new : Draft = record old { effects = c.push.new.self; records = c.judge_watching.new.notes } in (
+    let new : Draft = record old { effects = c.add_effect.new.effects; records = c.judge_watching.new.notes } in (
       c.in_ok-judge_watching.ensures.0,
       watch_alone (moment_of c.args.self.now.book.history) d c.args.row.now.id c.args.name.now c.args.object
           c.in_ok-made.made new
           (c.in_default.ensures d (rw (← c.self.view_is) c.self.invariant.stands.names)
           ∙ ap (service_at d) c.bytes.ensures) c.in_ok-made.ensures c.requires.live
-          c.in_ok-judge_watching.ensures.1 c.requires.blank.1 (rw c.requires.blank.0 at c.in_ok-push.ensures.items),
+          c.in_ok-judge_watching.ensures.1 c.requires.blank.1 (rw c.requires.blank.0 at c.in_ok-add_effect.ensures),
     )

@@ -9,7 +9,7 @@ use Rattle.sm_names.specs.Tracking.{TracksNames}
 use Rattle.sm_core.specs.declared.principals.Principals.{Principals}
 use Rattle.sm_core.specs.declared.state.State.{State}
 use Rattle.sm_core.specs.Stands.{Stands, StandPrincipals}
-use Rattle.sm_core.proofs.state.State.reserve_for.Goals as goal
+use Rattle.sm_core.proofs.state.State.reserve_rare.Goals as goal
 
 -- Tables with other room stand as before.
 roomier : (d : Effects) (s : State) (p : Principals) (t : NameTable) (g : Grants) (i : Inboxes)
@@ -31,13 +31,13 @@ roomier d s p t g i principals names grants inboxes still st = record {
 pub returns-in_ok-reserve-in-Connects-clause-stands : goal.returns-in_ok-reserve-in-Connects-clause-stands
 returns-in_ok-reserve-in-Connects-clause-stands c = λ d st.
     let s = c.args.self.now in
-    let p : Principals = record s.principals { clients = c.reserve-in-Connects.new.self } in
-    let inboxes = c.reserve-in-Connects-2.ensures in
-    roomier d s p s.names s.grants c.reserve-in-Connects-2.new.self
+    let p : Principals = record s.principals { clients = c.reserve.new.self } in
+    let inboxes = c.reserve-in-Connects.ensures in
+    roomier d s p s.names s.grants c.reserve-in-Connects.new.self
     (λ q. record {
       manager = q.manager;
       policy = q.policy;
       version = q.version;
-      clients = c.reserve-in-Connects.ensures.items ∙ q.clients;
+      clients = c.reserve.ensures.items ∙ q.clients;
     })
     (λ names. names) (λ grants. grants) (inboxes.tracks d) inboxes.still st
