@@ -46,11 +46,12 @@ pub struct Numbers {
 /// Accepts the connections of each kind, and returns when their sessions have ended. Clients' connections are served by
 /// a thread for each worker's account, one connection at a time each; administrators' by one more thread, one after
 /// another, all under `admin`. Seals that are due are made under `sealer`. The supervisor is notified when all threads
-/// run. If it wants a heartbeat, one more thread makes it, under `sealer`, too. Where the ringer has bells, a `take` waits for a delivery. All accounts are added to `gathered`, which is
-/// returned: its connections are parts of one lawful history, which begins with the one of the door's opening. Its
-/// chronicle also counts the connections that were turned away. The result is an error if a listener failed for good, a
-/// thread couldn't be started or an allocation failed; then the entrances are closed, and the connections that have
-/// begun are shut down if they haven't ended in time.
+/// run. If it wants a heartbeat, one more thread makes it, under `sealer`, too. Where the ringer has bells, a `take`
+/// waits for a delivery. All accounts are added to `gathered`, which is returned: its connections are parts of one
+/// lawful history, which begins with the one of the door's opening. Its chronicle also counts the connections that were
+/// turned away. The result is an error if a listener failed for good, a thread couldn't be started or an allocation
+/// failed; then the entrances are closed, and the connections that have begun are shut down if they haven't ended in
+/// time.
 pub fn serve<
     J: Naming + Send + Sync,
     K: Chronicle + Send,

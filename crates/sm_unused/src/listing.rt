@@ -118,8 +118,8 @@ fn is_empty(found: &UnusedRules, declared: &[u8]) -> bool
 /// - `key CONTEXTS:LINE: KEY`: an entry whose key is no valid name, or with whose label no type may add a service. The
 ///   entry `*` of all other names has no line.
 ///
-/// A STATEMENT is on one line, as [`rules`](sm_questions::rules) shows it. Only rules with a class and a permission of
-/// svcmgr's count. By an attribute, a neverallow rule doesn't count for a type.
+/// A STATEMENT is on one line, as [`rules`](sm_questions::rules) shows it. Rules that aren't kept don't count. A
+/// neverallow rule counts for the types and attributes that it names alone.
 ///
 /// # Errors
 ///
