@@ -10,6 +10,7 @@ _svcmgr() {
         explain) options="--name --help" ;;
         access) options="--source --target --name --class --perm --help" ;;
         rules) options="--kind --source --target --name --class --perm --help" ;;
+        types) options="--of --help" ;;
         suggest) options="--help" ;;
         unused) options="--help" ;;
         diff) options="--help" ;;
@@ -17,7 +18,7 @@ _svcmgr() {
     esac
     # The words for this place, if files don't fit.
     case "$COMP_CWORD $command $before" in
-        "1 "*) words="run check serve label explain access rules suggest unused diff admin --help --version" ;;
+        "1 "*) words="run check serve label explain access rules types suggest unused diff admin --help --version" ;;
         *" rules --kind") words="allow neverallow dontaudit" ;;
         *" access --class" | *" rules --class") words="service_manager binder" ;;
         *" access --perm" | *" rules --perm") words="add find list impersonate call set_context_mgr transfer" ;;

@@ -39,6 +39,8 @@ def command_of(question):
         for option, word in zip(names, words):
             options += [option, word] if word is not None else []
         words = []
+    elif command == "types":
+        options, words = ["--of", *words] if words[0] is not None else [], []
     elif command == "diff":
         files = FILES
     elif command == "suggest":

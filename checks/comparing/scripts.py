@@ -239,9 +239,11 @@ class Drawing(PolicyDrawing):
             name = self.one([*NAMES, "*"]) if given[1] is None and self.is_so(0.3) else None
             left = given[0], given[1], name, given[2], given[3]
             return ("access", *left) if kind < 0.6 else ("rules", self.one(RULE_KINDS), *left)
-        if kind < 0.82:
+        if kind < 0.8:
             return ("unused",)
-        return ("diff",) if kind < 0.89 else ("suggest", self.log())
+        if kind < 0.85:
+            return ("types", self.one([*TYPES, "domain", "unknown", ""]) if self.is_so(0.4) else None)
+        return ("diff",) if kind < 0.9 else ("suggest", self.log())
 
     # Logs.
 

@@ -149,6 +149,22 @@ def rules(kind, rules, contexts, path, rule_kind=None, source=None, target=None,
     return lines(f"{path}:{line}: {statement(every[line - 1 :])}" for line in found), "", 0
 
 
+@asked
+def types(kind, rules, contexts, name=None):
+    policy = read_policy(rules, contexts, kind)
+    if name is not None and name not in policy.types + policy.attributes:
+        raise Unknown(f"type {name}")
+    found = [
+        ("type", each, *(other for other in policy.attributes if other in policy.attributes_of[each]))
+        for each in policy.types
+    ]
+    found += [
+        ("attribute", each, *(other for other in policy.types if each in policy.attributes_of[other]))
+        for each in policy.attributes
+    ]
+    return lines(" ".join(words) for words in found if name in (None, words[1])), "", 0
+
+
 def covered_by(policy, rule):
     return {access for access in every_access(policy) if rule.covers(*access)}
 

@@ -17,6 +17,7 @@ pub fn command<'a>(alloc: Global) -> Result<Command<'a>, AllocError> {
         .subcommand(explain(alloc))
         .subcommand(access(alloc))
         .subcommand(rules(alloc))
+        .subcommand(types(alloc))
         .subcommand(suggest(alloc))
         .subcommand(unused(alloc))
         .subcommand(diff(alloc))
@@ -88,6 +89,14 @@ fn rules<'a>(alloc: Global) -> Building<'a> {
     let kinds = "Only those of this kind: allow, neverallow or dontaudit";
     let rules = Building::new(alloc, "rules", about).arg(word(alloc, "kind", "KIND", kinds));
     with_files(alloc, with_filter(alloc, rules))
+}
+
+fn types<'a>(alloc: Global) -> Building<'a> {
+    let about =
+        "Lists the types of a policy with their attributes, and its attributes with their types";
+    let name = "Only the type or the attribute of this name";
+    let types = Building::new(alloc, "types", about).arg(word(alloc, "of", "NAME", name));
+    with_files(alloc, types)
 }
 
 fn suggest<'a>(alloc: Global) -> Building<'a> {

@@ -11,6 +11,8 @@ pub enum Question<'a> {
     Explain(AccessWords<'a>),
     /// `svcmgr access [--source TYPE] [--target TYPE] [--name NAME] [--class CLASS] [--perm PERM] RULES CONTEXTS`
     Access(FilterWords<'a>),
+    /// `svcmgr types [--of NAME] RULES CONTEXTS`, of which this is the name.
+    Types(Option<&'a str>),
     /// `svcmgr diff RULES CONTEXTS NEWRULES NEWCONTEXTS`
     Diff(NewFiles<'a>),
 }
@@ -63,6 +65,7 @@ pub fn question_of<'a>(name: &str, matches: &ArgMatches<'a>) -> Option<Question<
         "label" => Some(Question::Label(matches.get_str("name")?)),
         "explain" => Some(Question::Explain(access_of(matches)?)),
         "access" => Some(Question::Access(filter_of(matches))),
+        "types" => Some(Question::Types(matches.get_str("of"))),
         "diff" => Some(Question::Diff(new_files_of(matches)?)),
         _ => None,
     }

@@ -20,6 +20,10 @@ use Rattle.sm_core.proofs.client.LiveClient.TheSendSync as ClientRowCrosses
 use Rattle.sm_core.proofs.process.Process.TheSendSync as ProcessCrosses
 use Rattle.sm_core.specs.contracts.turns.Turns as Turns
 use Rattle.sm_core.proofs.turns.Turns.TheSendSync as TurnsCross
+use Rattle.sm_core.specs.contracts.known_labels.KnownLabel as KnownLabel
+use Rattle.sm_core.proofs.known_labels.KnownLabel.TheSendSync as KnownLabelCrosses
+use Rattle.sm_core.specs.contracts.known_labels.LabelledPolicy as LabelledPolicy
+use Rattle.sm_core.specs.contracts.known_labels.LabelledPolicy.TheInside as LabelledInside
 use Rattle.sm_core.specs.contracts.principals.Principals as Principals
 use Rattle.sm_core.specs.contracts.turn_counts.TurnCounts as TurnCounts
 use Rattle.sm_core.specs.contracts.journal.Journal as Journal
@@ -63,17 +67,43 @@ turns_send = recorded_send _ _ _ Turns.the_type.to_one TurnsCross.the_field_send
 turns_sync : IsSync Turns.the_row
 turns_sync = recorded_sync _ _ _ Turns.the_type.to_one TurnsCross.the_field_sync
 
+known_send : IsSend KnownLabel.the_row
+known_send = recorded_send _ _ _ KnownLabel.the_type.to_one KnownLabelCrosses.the_field_send
+
+known_sync : IsSync KnownLabel.the_row
+known_sync = recorded_sync _ _ _ KnownLabel.the_type.to_one KnownLabelCrosses.the_field_sync
+
+slot_send : IsSend (Option.the_row KnownLabel.the_row)
+slot_send = search (sendable, crosses, known_send) depth 20
+
+slot_sync : IsSync (Option.the_row KnownLabel.the_row)
+slot_sync = search (sendable, crosses, known_sync) depth 20
+
+pub labelled_send : IsSend LabelledPolicy.the_row
+labelled_send =
+    cross.view_send LabelledInside.the_row _ _ _ _
+    (recorded_send _ _ _ LabelledInside.the_type.to_one
+    (struct_send (struct.shape LabelledInside.the_type)
+    (global_send, (prepared_send, (Vec-send (Option.the_row KnownLabel.the_row) slot_send, tt)))))
+
+pub labelled_sync : IsSync LabelledPolicy.the_row
+labelled_sync =
+    cross.view_sync LabelledInside.the_row _ _ _ _
+    (recorded_sync _ _ _ LabelledInside.the_type.to_one
+    (struct_sync (struct.shape LabelledInside.the_type)
+    (global_sync, (prepared_sync, (Vec-sync (Option.the_row KnownLabel.the_row) slot_sync, tt)))))
+
 principals_send : IsSend Principals.the_row
 principals_send =
     recorded_send _ _ _ Principals.the_type.to_one
     (struct_send (struct.shape Principals.the_type)
-    (ProcessCrosses.the_field_send, (prepared_send, (u64_send, (Vec-send LiveClient.the_row client_send, tt)))))
+    (ProcessCrosses.the_field_send, (labelled_send, (u64_send, (Vec-send LiveClient.the_row client_send, tt)))))
 
 principals_sync : IsSync Principals.the_row
 principals_sync =
     recorded_sync _ _ _ Principals.the_type.to_one
     (struct_sync (struct.shape Principals.the_type)
-    (ProcessCrosses.the_field_sync, (prepared_sync, (u64_sync, (Vec-sync LiveClient.the_row client_sync, tt)))))
+    (ProcessCrosses.the_field_sync, (labelled_sync, (u64_sync, (Vec-sync LiveClient.the_row client_sync, tt)))))
 
 turn_counts_send : IsSend TurnCounts.the_field.row
 turn_counts_send =

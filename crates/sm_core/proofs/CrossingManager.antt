@@ -56,7 +56,7 @@ use Rattle.sm_core.specs.contracts.ledger.Ledger as Ledger
 use Rattle.sm_core.specs.contracts.ledger.Ledger.TheInside as LedgerInside
 use Rattle.sm_core.specs.contracts.manager.Manager as Manager
 use Rattle.sm_core.specs.contracts.manager.Manager.TheInside as ManagerInside
-use Rattle.sm_core.proofs.Crossing.{client_send, global_send, u32_send, u64_send}
+use Rattle.sm_core.proofs.Crossing.{client_send, global_send, labelled_send, u32_send, u64_send}
 
 by_send : IsSend By.the_field.row
 by_send = search sendable depth 20
@@ -170,7 +170,7 @@ journal_send =
 principals_send : IsSend Principals.the_field.row
 principals_send =
     struct_send (struct.shape Principals.the_type)
-    (Process.the_field_send, (prepared_send, (u64_send, (Vec-send LiveClient.the_row client_send, tt))))
+    (Process.the_field_send, (labelled_send, (u64_send, (Vec-send LiveClient.the_row client_send, tt))))
 
 state_send : IsSend State.the_field.row
 state_send =

@@ -197,10 +197,8 @@ impl<'a> Access<'a> {
         ensures { IsRuled self.now notes.old.items notes.new.items class perm source.now.who target.now
             (option_map (λ n. n.now) name.entry) result }
     {
-        let decision = self
-            .principals
-            .policy
-            .decide_at(source.index, index, class, perm);
+        let policy = self.principals.policy.prepared();
+        let decision = policy.decide_at(source.index, index, class, perm);
         if decision.allowed {
             if !decision.audited {
                 return Ok(());

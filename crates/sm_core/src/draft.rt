@@ -17,8 +17,8 @@ pub struct Draft {
     pub records: Vec<Record>,
     /// The records of its notices, which it leaves only if it is accepted.
     pub told: Vec<Record>,
-    /// The number of the handle that was released last, most likely. It is only a hint: an object that hasn't this
-    /// number is found by its hash.
+    /// The number of the handle that is released, or the digest of the name that is added. It is only a hint: a row
+    /// that isn't found by it is found by a search.
     pub near: u32,
 }
 

@@ -58,7 +58,7 @@ pub fn tables_of(alloc: Global, state: &State) -> Result<Tables, AllocError>
     Ok(Tables {
         alloc,
         manager: Some(principals.manager.who.clone()?),
-        policy: Some(principals.policy.share()?),
+        policy: Some(principals.policy.prepared().share()?),
         version: principals.version,
         clients: state.next.saturating_sub(1),
         live: listed_clients(alloc, &state.grants, &state.inboxes, &principals.clients)?,

@@ -17,6 +17,7 @@ ghost use Rattle.sm_core.specs.Viewing as spec;
 
 use crate::caller::Caller;
 use crate::client::{LiveClient, copies_of, drop_client, first_row, renumber};
+use crate::known_labels::LabelledPolicy;
 use crate::process::Process;
 use sm_history::{By, Effect};
 use sm_policy::Prepared;
@@ -26,7 +27,7 @@ use std::alloc::{AllocError, Global};
 /// The manager's process and those of the live clients, under the policy in force. A manager and its views keep these.
 pub struct Principals {
     pub manager: Process,
-    pub policy: Prepared,
+    pub policy: LabelledPolicy,
     /// The number of the policy, from 1.
     pub version: u64,
     pub clients: Vec<LiveClient>,
@@ -62,7 +63,7 @@ impl Principals {
     {
         Ok(Principals {
             manager: self.manager.clone()?,
-            policy: self.policy.share()?,
+            policy: LabelledPolicy::new(alloc, self.policy.prepared().share()?),
             version: self.version,
             clients: copies_of(alloc, &self.clients)?,
         })
@@ -108,8 +109,9 @@ impl Principals {
             × (length self.new.clients.items ≡ length self.old.clients.items)
             × (self.new.version ≡ self.old.version) }
     {
-        self.manager = Process::new(who, &self.policy);
-        renumber(&mut self.clients, &self.policy, &self.manager);
+        let policy = self.policy.prepared();
+        self.manager = Process::new(who, policy);
+        renumber(&mut self.clients, policy, &self.manager);
     }
 
     /// Puts a policy in force: each type gets the number that it has there.
@@ -122,7 +124,7 @@ impl Principals {
     {
         self.manager.renumber(&policy);
         renumber(&mut self.clients, &policy, &self.manager);
-        self.policy = policy;
+        self.policy.replace(policy);
         self.version += 1;
     }
 
@@ -135,7 +137,7 @@ impl Principals {
             × (length self.new.clients.items ≡ length self.old.clients.items + 1)
             × (self.new.version ≡ self.old.version) }
     {
-        let row = LiveClient::new(client, who, &self.policy, &self.manager);
+        let row = LiveClient::new(client, who, self.policy.prepared(), &self.manager);
         self.clients.push_reserved(row);
     }
 

@@ -122,7 +122,7 @@ impl<'a> QueryTables<'a> {
                 class,
                 perm,
             } => {
-                let policy = &self.principals.policy;
+                let policy = self.principals.policy.prepared();
                 Ok(Answer::Why(policy.why(source.bytes(), target.bytes(), *class, *perm)))
             }
         }

@@ -57,3 +57,4 @@ pub mod Submitting
 pub mod Joining
 pub mod SealedTokens
 pub mod Staying
+pub mod Repeating

@@ -105,7 +105,7 @@ replayed a b la l =
 
 -- ---- the verdict without the place
 
-hold_none : (p : Policy) (xs : List Check) → AllHold p xs → first_failing p xs ≡ None
+pub hold_none : (p : Policy) (xs : List Check) → AllHold p xs → first_failing p xs ≡ None
 hold_none p [] h = refl
 hold_none p (x ∷ xs) h = rw h.0 (hold_none p xs h.1)
 

@@ -40,3 +40,4 @@ pub mod Steps
 pub mod Promises
 pub mod PossibleReplies
 pub mod PromiseLaws
+pub mod Repeating

@@ -8,6 +8,7 @@ ghost use Rattle.sm_history.specs.LawStatements.{SealedIsLawful, SealedFits, Beg
 ghost use Rattle.sm_history.specs.LawStatements.{BeginsWithTheOneSealed, BeginsWithItsBeginnings, SegmentsGrow};
 ghost use Rattle.sm_history.specs.LawStatements.{LaterIsMore, LaterIsLawful, RecordsAreTrue, QueryRecordsAreTrue};
 ghost use Rattle.sm_history.specs.LawStatements.{RecordsStayTrue};
+ghost use Rattle.sm_history.specs.Repeating.{ChangesRepeat, MoreSlotsJudgeAlike};
 
 /// A lawful history gives the same verdicts as its segment: one that begins with the rows of its older part and goes on
 /// with its newer part. The exception is a journal that is full.
@@ -84,4 +85,11 @@ pub fn true_records()
     ensures events { RecordsAreTrue }
     ensures queries { QueryRecordsAreTrue }
     ensures later { RecordsStayTrue }
+{}
+
+/// If a change of a history is asked for again, of the history before it, it is made again with the same outcome, or an
+/// allocation failed. More journal slots change nothing of that.
+pub fn repeating()
+    ensures more { MoreSlotsJudgeAlike }
+    ensures again { ChangesRepeat }
 {}

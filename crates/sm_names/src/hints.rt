@@ -2,7 +2,7 @@
 //! a row that a hint leads to is used only if it has the name that is sought. So contracts say nothing of hints, and
 //! hints that can't be allocated are just not there.
 
-use crate::digest::digest;
+use crate::digests::digest;
 use sm_history::NamedRow;
 use std::alloc::Global;
 
@@ -29,7 +29,13 @@ impl Hints {
         if self.places.is_empty() {
             return 0;
         }
-        digest(name) as usize & self.places.len().wrapping_sub(1)
+        self.slot_by(digest(name))
+    }
+
+    /// Returns the slot of names with a digest.
+    #[inline(always)]
+    pub fn slot_by(&self, digest: u32) -> usize {
+        digest as usize & self.places.len().wrapping_sub(1)
     }
 
     /// Returns the hint in a slot.

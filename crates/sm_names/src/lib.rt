@@ -5,7 +5,7 @@
 //! An `AllocError` says that an allocation failed, and nothing else.
 #![tactic(auto)]
 
-mod digest;
+mod digests;
 mod hints;
 mod named_rows;
 mod names;
@@ -14,5 +14,6 @@ mod services;
 mod watch_list;
 mod watch_order;
 
+pub use digests::digest;
 pub use names::NameTable;
 pub use services::Services;

@@ -72,6 +72,14 @@ impl NameTable {
         self.services.get(name)
     }
 
+    /// As `get`. A name with this `digest` is found fastest; any number gives the same result.
+    #[inline(always)]
+    pub fn get_by(&self, digest: u32, name: &[u8]) -> Option<Service>
+        ensures { (d : Effects) → TracksNames d self.now → result ≡ service_at d name.now }
+    {
+        self.services.get_by(digest, name)
+    }
+
     /// Returns whether a service may be put under a name: it has one, or fewer than 4,096 names have one.
     pub fn has_room(&self, name: &[u8]) -> bool
         ensures { (d : Effects) → TracksNames d self.now → result ≡ has_name_room d name.now }
@@ -145,6 +153,19 @@ impl NameTable {
         ensures same { watch_count self.new ≡ watch_count self.old }
     {
         self.services.put(name, service);
+    }
+
+    /// As `put`. A name with this `digest` is found fastest; any number gives the same result.
+    #[inline(always)]
+    pub fn put_by(&mut self, digest: u32, name: Name, service: Service)
+        requires { HasRoom 1 self.old }
+        ensures tracks { (d : Effects) → TracksNames d self.old
+            → is_live d service.node.owner.0 ≡ true
+            → TracksNames (Adds name service ∷ d) self.new }
+        ensures left { (n : ℕ) → HasRoom (n + 1) self.old → HasRoom n self.new }
+        ensures same { watch_count self.new ≡ watch_count self.old }
+    {
+        self.services.put_by(digest, name, service);
     }
 
     /// Removes the service of a name, if there is one.

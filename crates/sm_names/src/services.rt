@@ -8,6 +8,7 @@ ghost use Rattle.sm_history.specs.Services.{service_at, current_names};
 ghost use Rattle.sm_history.specs.Queries.{names_by_mask};
 ghost use Rattle.sm_names.specs.Rows.{TracksRows};
 
+use crate::digests::digest;
 use crate::hints::Hints;
 use crate::named_rows::NamedRows;
 use sm_history::{NameList, NamedRow, Service};
@@ -87,7 +88,25 @@ impl Services {
         ensures { (d : Effects) → TracksRows d self.now.rows.items
             → result ≡ service_at d name.now }
     {
-        let hint = self.hints.get(self.hints.slot_of(name));
+        self.guessed(self.hints.slot_of(name), name)
+    }
+
+    /// As `get`. A name with this digest is found fastest; any number gives the same result.
+    #[inline(always)]
+    pub fn get_by(&self, digest: u32, name: &[u8]) -> Option<Service>
+        ensures { (d : Effects) → TracksRows d self.now.rows.items
+            → result ≡ service_at d name.now }
+    {
+        self.guessed(self.hints.slot_by(digest), name)
+    }
+
+    /// Returns the service of a name, which has this slot, most likely.
+    #[inline(always)]
+    fn guessed(&self, slot: usize, name: &[u8]) -> Option<Service>
+        ensures { (d : Effects) → TracksRows d self.now.rows.items
+            → result ≡ service_at d name.now }
+    {
+        let hint = self.hints.get(slot);
         if let Some(service) = self.rows.guess(hint, name) {
             return Some(service);
         }
@@ -114,7 +133,21 @@ impl Services {
         ensures kept { (self.new.rows.capacity ≡ self.old.rows.capacity)
             × (length self.new.rows.items ≤ length self.old.rows.items + 1) }
     {
-        let slot = self.hints.slot_of(name.bytes());
+        let digest = digest(name.bytes());
+        self.put_by(digest, name, service);
+    }
+
+    /// As `put`. A name with this digest is found fastest; any number gives the same result.
+    #[inline(always)]
+    pub fn put_by(&mut self, digest: u32, name: Name, service: Service)
+        requires { length self.old.rows.items < self.old.rows.capacity }
+        ensures tracks { (d : Effects) → TracksRows d self.old.rows.items
+            → is_live d service.node.owner.0 ≡ true
+            → TracksRows (Adds name service ∷ d) self.new.rows.items }
+        ensures kept { (self.new.rows.capacity ≡ self.old.rows.capacity)
+            × (length self.new.rows.items ≤ length self.old.rows.items + 1) }
+    {
+        let slot = self.hints.slot_by(digest);
         let hint = self.hints.get(slot);
         if self.rows.put_guess(hint, name.bytes(), service) {
             return;

@@ -3,6 +3,7 @@
 #![tactic(auto)]
 
 mod judging;
+pub mod laws;
 mod manager_script;
 mod running;
 mod script_fault;

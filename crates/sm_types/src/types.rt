@@ -107,6 +107,13 @@ impl Types {
         Some(name)
     }
 
+    /// Returns the name of an attribute by its number.
+    pub fn attribute_name(&self, index: usize) -> Option<&[u8]>
+        ensures { option_map (λ n. n.now) result ≡ slice_get self.now.symbols.attributes index }
+    {
+        self.table.symbols.attributes.name(index)
+    }
+
     /// Returns the number of the type that a set denotes, if the set is written as the name of one type. `None` says
     /// nothing of the set: [`expand`](Types::expand) has its types.
     pub fn only(&self, set: &Set) -> Option<u16>

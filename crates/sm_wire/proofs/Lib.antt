@@ -1,11 +1,13 @@
 pub mod DecimalLemmas
-pub mod FramingLemmas
 pub mod FieldLemmas
+pub mod FramingLemmas
 pub mod GivingLemmas
 pub mod ItemLemmas
 pub mod LineLemmas
 pub mod NameLemmas
 pub mod NumberLemmas
+pub mod RecordedLemmas
+pub mod ScriptLineLemmas
 pub mod SpellingLemmasContexts
 pub mod SpellingLemmasFields
 pub mod SpellingLemmasLines

@@ -11,4 +11,6 @@ pub mod Spelling
 pub mod Items
 pub mod Ends
 pub mod Replies
+pub mod ScriptLines
 pub mod Texts
+pub mod Recording

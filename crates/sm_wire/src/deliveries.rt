@@ -77,7 +77,7 @@ fn push_caller(out: &mut Vec<u8>, object: u32, pid: u32, uid: u32) -> Result<(),
 }
 
 #[tactic(auto, unfolding(crate::specs::Replies::payload_text))]
-fn push_payload(out: &mut Vec<u8>, payload: &Payload) -> Result<(), AllocError>
+pub fn push_payload(out: &mut Vec<u8>, payload: &Payload) -> Result<(), AllocError>
     ensures { OnOk result (out.new.items ≡ out.old.items ++ payload_text payload.now) }
 {
     match payload.bytes() {

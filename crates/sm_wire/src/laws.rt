@@ -8,7 +8,16 @@ ghost use Rattle.sm_wire.specs.declared.item.Item.TheVariants as items;
 ghost use Rattle.sm_wire.specs.declared.kind.Kind.{Kind};
 ghost use Rattle.sm_wire.specs.declared.reload_header.ReloadHeader.{ReloadHeader};
 ghost use Rattle.sm_wire.specs.declared.request.Request.{Request};
-ghost use Rattle.sm_wire.specs.Grammar.{header_of, request_of};
+ghost use Rattle.sm_values.specs.declared.identity.Identity.{Identity};
+ghost use Rattle.sm_values.specs.declared.number.ClientId.{ClientId};
+ghost use Rattle.sm_history.specs.declared.event.Event.{Event};
+ghost use Rattle.sm_wire.specs.declared.kind.Kind.TheVariants.{Script};
+ghost use Rattle.sm_wire.specs.declared.request.Request.TheVariants.{Change, Hello, Reload};
+ghost use Rattle.sm_wire.specs.Number.{u32_max};
+ghost use Rattle.sm_wire.specs.ScriptLines.{change_text, hello_text, reload_text, FitsHello, FitsLine, FitsReload};
+ghost use Rattle.sm_wire.specs.declared.item.Item.{Item};
+ghost use Rattle.sm_wire.specs.Recording.{AreItems};
+ghost use Rattle.sm_wire.specs.Grammar.{header_by, header_of, request_of};
 ghost use Rattle.sm_wire.specs.Spelling.{Spells, SpellsNothing};
 ghost use Rattle.sm_wire.specs.Items.{item_of, items_of, items_after, rest_of, scan_after};
 
@@ -62,4 +71,28 @@ pub fn written_lines()
 /// No line spells two requests.
 pub fn one_request()
     ensures { (kind : Kind) (line : List ℕ) (a b : Request) → Spells kind line a → Spells kind line b → a ≡ b }
+{}
+
+/// The lines that are written for changes are lines of a script, and spell these changes.
+pub fn change_lines()
+    ensures changes { (client : ClientId) (event : Event) → client.0 ≤ u32_max → FitsLine event
+        → Spells Script (change_text client event) (Change (Some client) event) }
+    ensures hellos { (who : Identity) → FitsHello who → Spells Script (hello_text who) (Hello who) }
+    ensures reloads { (expected : ℕ) (rules contexts : List ℕ) → FitsReload expected rules contexts
+        → Spells Script (reload_text expected rules contexts) (Reload expected (length rules) (length contexts)) }
+{}
+
+/// The bytes of a line of a script and its newline are its item, whatever follows. So are a `reload` line and its files.
+/// Bytes that are some items and bytes that are others are together all of them.
+pub fn recorded_lines()
+    ensures lines { (line : List ℕ) (request : Request) → AllByRecursion (λ b. b ≢ 10) line → length line ≤ 4096
+        → header_by (Some request) ≡ None → Spells Script line request
+        → AreItems (line ++ 10 ∷ []) (items.Asked request ∷ []) }
+    ensures reloads { (line rules contexts : List ℕ) (expected : ℕ) → AllByRecursion (λ b. b ≢ 10) line
+        → length line ≤ 4096 → length rules ≤ 4194304 → length contexts ≤ 4194304
+        → Spells Script line (Reload expected (length rules) (length contexts))
+        → AreItems (line ++ 10 ∷ (rules ++ contexts))
+        (items.Policy (record { expected = expected; rules = rules; contexts = contexts }) ∷ []) }
+    ensures joined { (x y : List ℕ) (is js : List Item) → AreItems x is → AreItems y js
+        → AreItems (x ++ y) (is ++ js) }
 {}

@@ -24,6 +24,7 @@ mod refusals;
 mod reload_header;
 mod replies;
 mod request;
+mod script_lines;
 mod telling;
 mod texts;
 mod values;
@@ -32,13 +33,15 @@ pub use denials::push_denials;
 pub use item::Item;
 pub use kind::Kind;
 pub use laws::{
-    any_cut, first_line, long_line, one_request, one_spelling, reload_line, written_lines,
+    any_cut, change_lines, first_line, long_line, one_request, one_spelling, recorded_lines,
+    reload_line, written_lines,
 };
 pub use lines::LineReader;
 pub use policy_refusals::push_policy_refused;
 pub use read_error::ReadError;
 pub use reload_header::ReloadHeader;
-pub use replies::{push_reply, reply_line};
+pub use replies::{push_outcome, push_reply, reply_line};
 pub use request::Request;
+pub use script_lines::{has_line, push_change, push_hello, push_reload};
 pub use telling::Telling;
 pub use texts::PolicyTexts;

@@ -60,9 +60,10 @@ fn push_told(alloc: Global, out: &mut Vec<u8>, reply: &Reply) -> Result<(), Allo
     }
 }
 
+/// Appends the line of an outcome, with its newline. On error a part may have been appended.
 #[inline(always)]
 #[tactic(auto, unfolding(crate::specs::Replies::outcome_text))]
-fn push_outcome(alloc: Global, out: &mut Vec<u8>, outcome: &Outcome) -> Result<(), AllocError>
+pub fn push_outcome(alloc: Global, out: &mut Vec<u8>, outcome: &Outcome) -> Result<(), AllocError>
     ensures { OnOk result (out.new.items ≡ out.old.items ++ outcome_text outcome.now ++ codes "\n") }
 {
     match outcome {

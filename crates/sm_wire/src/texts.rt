@@ -38,6 +38,18 @@ impl PolicyTexts {
         }
     }
 
+    /// Returns the version that the policy in force must have, and the two files.
+    pub fn into_files(self) -> (u64, Vec<u8>, Vec<u8>)
+        ensures { (result.0 ≡ self.expected) × (result.1.items ≡ self.rules) × (result.2.items ≡ self.contexts) }
+    {
+        let PolicyTexts {
+            expected,
+            rules,
+            contexts,
+        } = self;
+        (expected, rules, contexts)
+    }
+
     /// Returns the version that the policy in force must have.
     pub fn expected(&self) -> u64
         ensures { result ≡ self.now.expected }

@@ -10,6 +10,7 @@ use sm_command::{
     TargetWord, read_log, unknown_line,
 };
 use sm_engine::{Counted, Fault, write_whole};
+use sm_listings::{knows, types};
 use sm_policy::{PolicyFault, Prepared};
 use sm_questions::{
     FilterOptions, RuleOptions, Target, Unknown, access, diff, explain, label, read_access,
@@ -140,6 +141,7 @@ fn answer<'a>(
         Question::Label(name) => tell_label(rt, policy, name),
         Question::Explain(words) => tell_rule(rt, policy, words),
         Question::Access(words) => tell_accesses(rt, policy, words),
+        Question::Types(name) => tell_types(rt, policy, name),
         Question::Diff(files) => tell_differences(rt, policy, files),
     }
 }
@@ -239,6 +241,23 @@ fn tell_accesses<'a>(
     };
     let mut writer = Counted::new(Pipe::new(rt.stdout()));
     let ended = access(rt.alloc(), policy, &filter, &mut writer);
+    listed(ended, writer.into_inner().is_closed())
+}
+
+/// Lists the types and attributes of a policy, or the one of this name.
+fn tell_types<'a>(
+    rt: &HostRuntime,
+    policy: &Prepared,
+    name: Option<&str>,
+) -> Result<ExitCode, Ending<'a>> {
+    if let Some(name) = name
+        && !knows(policy, name.as_bytes())
+    {
+        return Ok(refuse_word(rt, &Unknown::Type(word(name))));
+    }
+    let name = name.map(word);
+    let mut writer = Counted::new(Pipe::new(rt.stdout()));
+    let ended = types(rt.alloc(), policy, &name, &mut writer);
     listed(ended, writer.into_inner().is_closed())
 }
 

@@ -13,6 +13,7 @@ use crate::ledger::Ledger;
 use crate::process::Process;
 use crate::refusing::Checked;
 use sm_history::Record;
+use sm_names::digest;
 use sm_policy::Label;
 use sm_values::{Class, Name, Perms};
 
@@ -27,6 +28,15 @@ impl Ledger {
             length: self.journal.history_length(),
             principals: &self.state.principals,
         }
+    }
+
+    /// Returns the label of a name. One that was added with this digest is found fastest; any number gives the same
+    /// result.
+    #[inline(always)]
+    pub fn label(&self, digest: u32, name: &[u8]) -> Label<'_>
+        ensures { IsLabel (effects_in self.now) name.now result }
+    {
+        self.state.principals.policy.labelled(digest, name)
     }
 
     /// Checks a permission of Binder from a client to the manager.
@@ -107,7 +117,7 @@ impl Ledger {
         ensures { IsRuled (moment_in self.now) notes.old.items notes.new.items ServiceManager perm who.now.who
             (label_at (effects_in self.now) name.now) (Some name.now) result }
     {
-        let label = self.state.principals.policy.labelled(name.bytes());
+        let label = self.label(digest(name.bytes()), name.bytes());
         self.check_to_known_label(who, name, label, perm, notes)
     }
 

@@ -17,6 +17,7 @@ use crate::draft::{Draft, add_effect};
 use crate::ledger::Ledger;
 use crate::refusing::{Checked, excepted, failed};
 use sm_history::{Denial, Effect, Exception, Failure, Outcome, Record, Service};
+use sm_names::digest;
 use sm_policy::Label;
 use sm_values::{Name, Node, ObjRef, Perms, is_barred_app, valid_name};
 
@@ -41,7 +42,8 @@ impl Ledger {
         let notes = &mut draft.records;
         self.check_to_manager(row, Perms::CALL, notes)?;
         let reference = self.judge_reference(row, obj, notes)?;
-        let label = self.state.principals.policy.labelled(name.bytes());
+        let digest = digest(name.bytes());
+        let label = self.state.principals.policy.labelled(digest, name.bytes());
         let node = self.judge_service(row, name, label, reference, notes)?;
         let copy = name.clone()?;
         let service = Service {
@@ -57,6 +59,7 @@ impl Ledger {
                 service,
             },
         )?;
+        draft.near = digest;
         let notices = self.notify_all(name.bytes(), node, label, draft)?;
         Ok(Outcome::Added(notices))
     }

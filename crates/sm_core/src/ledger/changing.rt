@@ -34,8 +34,8 @@ impl Ledger {
         self.state.reserve(effects)
     }
 
-    /// Makes a change, for which there is room, and leaves the list of its effects empty. An object that is released has
-    /// the number `near`, most likely. Allocates nothing.
+    /// Makes a change, for which there is room, and leaves the list of its effects empty. `near` is most likely the
+    /// number of an object that is released, or the digest of a name that is added. Allocates nothing.
     #[inline(always)]
     pub fn change(&mut self, entry: Entry, effects: &mut Vec<Effect>, near: u32)
         requires { MayChange self.old entry effects.old.items }

@@ -13,6 +13,7 @@ use crate::draft::{Draft, add_effect};
 use crate::ledger::Ledger;
 use crate::refusing::{Checked, failed};
 use sm_history::{Denial, Effect, Failure, Outcome, Record, Reply, Service};
+use sm_names::digest;
 use sm_values::{Name, Perms, is_isolated};
 
 impl Ledger {
@@ -25,8 +26,9 @@ impl Ledger {
         ensures { Judged self.now.book.history draft.old draft.new row.now.id (Get name.now) result }
     {
         let notes = &mut draft.records;
-        let found = self.state.names.get(name.bytes());
-        let service = self.visible(row, name, found, notes)?;
+        let digest = digest(name.bytes());
+        let found = self.state.names.get_by(digest, name.bytes());
+        let service = self.visible(row, name, digest, found, notes)?;
         self.check_from_manager(row, Perms::TRANSFER, notes)?;
         if service.node.owner.0 == row.id {
             return Err(Reply::GotOwn(service.node.object));
@@ -45,11 +47,12 @@ impl Ledger {
         Ok(Outcome::Granted(number))
     }
 
-    /// Returns the service of a name, if there is one and the client may find it.
+    /// Returns the service of a name, which has this digest, most likely, if there is one and the client may find it.
     fn visible(
         &self,
         row: &LiveClient,
         name: &Name,
+        digest: u32,
         found: Option<Service>,
         notes: &mut Vec<Record>,
     ) -> Checked<Service>
@@ -63,7 +66,8 @@ impl Ledger {
             let denial = Denial::Isolated(row.process.who.uid);
             return Err(self.access().barred(denial, &row.process.who, name, notes)?);
         }
-        self.check_to_label(&row.process, name, Perms::FIND, notes)?;
+        let label = self.label(digest, name.bytes());
+        self.check_to_known_label(&row.process, name, label, Perms::FIND, notes)?;
         match found {
             Some(service) => Ok(service),
             None => Err(Reply::GotNull),

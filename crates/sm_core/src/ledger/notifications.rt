@@ -22,6 +22,7 @@ use crate::refusing::{Checked, failed, reason};
 use sm_history::{
     Delivery, Effect, Failure, Given, Message, Notice, Notices, Record, Shared, Told, Watch,
 };
+use sm_names::digest;
 use sm_policy::Label;
 use sm_values::{ClientId, Node, Perms};
 use std::alloc::{AllocError, Global};
@@ -200,7 +201,8 @@ impl Ledger {
             (λ r. r ≡ out_of_memory) }
     {
         let mut rooms = InboxRooms::new(self.alloc);
-        let label = self.state.principals.policy.labelled(watch.name.bytes());
+        let name = watch.name.bytes();
+        let label = self.label(digest(name), name);
         let notice = self.notify(watch, node, label, &mut rooms, draft)?;
         Ok(Shared::new(self.alloc, notice)?)
     }

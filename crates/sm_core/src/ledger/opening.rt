@@ -5,6 +5,7 @@ ghost use Rattle.sm_history.specs.Lawful.{MayOpen};
 ghost use Rattle.sm_core.specs.Opening.{opened};
 
 use crate::journal::Journal;
+use crate::known_labels::LabelledPolicy;
 use crate::ledger::Ledger;
 use crate::principals::Principals;
 use crate::process::Process;
@@ -48,7 +49,7 @@ impl Ledger {
             state: State {
                 principals: Principals {
                     manager,
-                    policy: share,
+                    policy: LabelledPolicy::new(alloc, share),
                     version: 1,
                     clients: Vec::new(alloc),
                 },

@@ -3,6 +3,7 @@
 use super::manager::prepared;
 use super::outcome::same_text;
 use sm_engine::{Counted, Fault};
+use sm_listings::types;
 use sm_policy::{PolicyFault, Prepared};
 use sm_questions::{
     FilterOptions, RuleOptions, Target, Unknown, access, all_shown_lines, check_all, diff, explain,
@@ -110,6 +111,20 @@ fn lists_rules(rt: &impl Abort, alloc: Global) -> Option<()> {
     wrote(rt, fault, writer, RULES_TOLD)
 }
 
+/// Lists the types of an attribute.
+fn lists_types(rt: &impl Abort, alloc: Global) -> Option<()> {
+    let policy = prepared(rt, alloc, DEVICE_RULES)?;
+    let name = Some(Word::new(b"binderuser"));
+    let mut writer = Counted::new(Vec::new(alloc));
+    let fault = types(alloc, &policy, &name, &mut writer).err();
+    wrote(
+        rt,
+        fault,
+        writer,
+        b"attribute binderuser system_server untrusted_app isolated_app\n",
+    )
+}
+
 const NEEDLESS_RULE: &[u8] = b"allow untrusted_app activity_service:service_manager find;\n";
 
 const UNUSED_TOLD: &[u8] =
@@ -207,6 +222,7 @@ fn answers(rt: &impl Abort, alloc: Global, old: &Prepared, new: &Prepared) {
     again!(rt; lists(rt, alloc, old));
     again!(rt; lists_rules(rt, alloc));
     again!(rt; suggests(rt, alloc, old));
+    again!(rt; lists_types(rt, alloc));
     again!(rt; lists_unused(rt, alloc));
     again!(rt; compares(rt, alloc, old, new));
     again!(rt; names_a_word(rt, alloc));

@@ -9,7 +9,7 @@ use Rattle.sm_core.proofs.listing.tables_of.Goals as goal
 pub returns : goal.returns
 returns c d s = record {
   manager = c.in_ok-clone.ensures.cases ∙ ap (λ (p : Process). p.who) s.principals.manager;
-  policy = c.in_ok-share.ensures.same ∙ s.principals.policy;
+  policy = c.in_ok-share.ensures.same ∙ c.prepared.ensures ∙ s.principals.policy;
   version = s.principals.version;
   clients = before_next c.args.state.now.next (clients_made d) c.saturating_sub.result s.next
       c.saturating_sub.ensures;

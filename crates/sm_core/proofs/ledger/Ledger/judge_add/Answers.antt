@@ -43,7 +43,11 @@ returns c =
     let d = effects_of c.args.self.now.book.history in
     let k = c.args.row.now.id in
     let old = c.args.draft.now in
-    let mid : Draft = record old { effects = c.add_effect.new.effects; records = c.judge_service.new.notes } in
+    let mid : Draft = record old {
+      effects = c.add_effect.new.effects;
+      records = c.judge_service.new.notes;
+      near = c.digest-digest.result;
+    } in
     let pass = c.in_ok-reference.ensures in (
       all_pass_behind m _ _ _ _ d k c.args.obj _ (naming_checks d k c.args.name.now c.args.obj) (search rules) pass.0
           (naming_is m _ _ d k c.args.name.now c.args.obj c.in_ok-reference.reference pass.0 pass.1)

@@ -15,8 +15,9 @@ returns-in_err-service c =
     let d = effects_of c.args.self.now.book.history in
     let k = c.args.row.now.id in
     let s = service_at d c.args.name.now in
-    let found : c.get-found.result ≡ s =
-    c.get-found.ensures d (rw (← c.self.view_is) c.self.invariant.stands.names) ∙ ap (service_at d) c.bytes.ensures in
+    let found : c.get_by-found.result ≡ s =
+    c.get_by-found.ensures d (rw (← c.self.view_is) c.self.invariant.stands.names)
+    ∙ ap (service_at d) c.bytes-2.ensures in
     let p = err_from_is_err_and c.from_residual.result c.from_residual.ensures.1 in
     rw (p.1, p.2) (halts_first m _ _ (sight_checks d k c.args.name.now s)
     (from_manager d k transferring ∷ handing_checks d k s) c.in_err-service.field-0.0

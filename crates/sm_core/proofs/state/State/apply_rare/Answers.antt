@@ -9,7 +9,7 @@ use Rattle.sm_inbox.specs.Tracking.{is_open}
 use Rattle.sm_inbox.proofs.Others.{tracks_other as inboxes_other, tracks_connects as inboxes_connects}
 use Rattle.sm_core.proofs.Opened.{open_connects, open_dies, connect_open}
 use Rattle.sm_core.proofs.Opened.{fewer_names, room_left}
-use Rattle.sm_core.proofs.Viewing.{same_principals}
+use Rattle.sm_core.proofs.Viewing.{same_but_room, same_principals}
 use Rattle.sm_core.proofs.state.State.apply_rare.Goals as goal
 
 pub returns-in-Opens-clause-stands : goal.returns-in-Opens-clause-stands
@@ -59,9 +59,10 @@ returns-in-Connects-clause-stands c = rw c.in-Connects.is (λ d s m. record {
 pub returns-in-Adds-clause-stands : goal.returns-in-Adds-clause-stands
 returns-in-Adds-clause-stands c = rw c.in-Adds.is (λ d s m. record {
   sound = sound_follows d (Adds c.in-Adds.name c.in-Adds.service) s.sound m;
-  principals = same_principals (Adds c.in-Adds.name c.in-Adds.service) d _ refl s.principals;
+  principals = same_principals (Adds c.in-Adds.name c.in-Adds.service) d _ refl
+      (same_but_room d c.args.self.now.principals _ refl c.note.ensures refl refl s.principals);
   next = s.next;
-  names = c.put.ensures.tracks d s.names m;
+  names = c.put_by.ensures.tracks d s.names m;
   grants = grants_other (Adds c.in-Adds.name c.in-Adds.service) d c.args.self.now.grants.rows.items refl s.grants;
   inboxes = inboxes_other (Adds c.in-Adds.name c.in-Adds.service) d c.args.self.now.inboxes refl s.inboxes;
   open_ = s.open_;
@@ -119,8 +120,16 @@ returns-in-Dies-clause-stands c = rw c.in-Dies.is (λ d s m. record {
 
 pub returns-in-Adds-clause-left : goal.returns-in-Adds-clause-left
 returns-in-Adds-clause-left c =
-    rw c.in-Adds.is (λ rest last room. room_left (Adds c.in-Adds.name c.in-Adds.service) rest c.args.self.now _
-    (c.put.ensures.left (length rest)) room)
+    rw c.in-Adds.is (λ rest last room.
+    let r = room_left (Adds c.in-Adds.name c.in-Adds.service) rest c.args.self.now _
+    (c.put_by.ensures.left (length rest)) room in record {
+      clients = r.clients;
+      names = r.names;
+      version = r.version;
+      next = r.next;
+      handles = r.handles;
+      inboxes = r.inboxes;
+    })
 
 pub returns-in-Watches-clause-left : goal.returns-in-Watches-clause-left
 returns-in-Watches-clause-left c = rw c.in-Watches.is

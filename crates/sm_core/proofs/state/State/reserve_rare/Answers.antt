@@ -41,3 +41,16 @@ returns-in_ok-reserve-in-Connects-clause-stands c = λ d st.
       clients = c.reserve.ensures.items ∙ q.clients;
     })
     (λ names. names) (λ grants. grants) (inboxes.tracks d) inboxes.still st
+
+pub returns-in-Adds-clause-stands : goal.returns-in-Adds-clause-stands
+returns-in-Adds-clause-stands c = λ d st.
+    let s = c.args.self.now in
+    let p : Principals = record s.principals { policy = c.reserve-in-Adds.new.self } in
+    roomier d s p c.reserve-in-Adds-2.new.self s.grants s.inboxes
+    (λ q. record {
+      manager = q.manager;
+      policy = c.reserve-in-Adds.ensures ∙ q.policy;
+      version = q.version;
+      clients = q.clients;
+    })
+    (c.reserve-in-Adds-2.ensures.tracks d) (λ grants. grants) (λ inboxes. inboxes) (λ k is. is) st

@@ -37,24 +37,28 @@ fn mixed(sum: u64, word: u64) -> u64 {
     product ^ (product >> 32)
 }
 
-/// Returns a number that differs for most names.
+/// Returns a number that differs for most names. Nothing is claimed of it: it says only where a name may be found.
 #[inline(always)]
-pub fn digest(name: &[u8]) -> u64 {
+pub fn digest(name: &[u8]) -> u32 {
+    (sum_of(name).wrapping_mul(FACTOR) >> 40) as u32
+}
+
+#[inline(always)]
+fn sum_of(name: &[u8]) -> u64 {
     let n = name.len();
     let mut sum = n as u64;
     if n < 8 {
         if n >= 4 {
             let ends = (u64::from(four_at(name, 0)) << 32) ^ u64::from(four_at(name, n - 4));
-            return mixed(sum, ends).wrapping_mul(FACTOR) >> 40;
+            return mixed(sum, ends);
         }
         for byte in name {
             sum = sum.wrapping_mul(256).wrapping_add(u64::from(*byte));
         }
-        return mixed(sum, 0).wrapping_mul(FACTOR) >> 40;
+        return mixed(sum, 0);
     }
     for k in 0..n / 8 {
         sum = mixed(sum, eight_at(name, 8 * k));
     }
-    sum = mixed(sum, eight_at(name, n - 8));
-    sum.wrapping_mul(FACTOR) >> 40
+    mixed(sum, eight_at(name, n - 8))
 }
