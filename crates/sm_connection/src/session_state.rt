@@ -10,7 +10,7 @@ use crate::desk::Desk;
 use crate::response::Response;
 use sm_history::{Outcome, Reply, is_death};
 use sm_policy::Prepared;
-use sm_wire::{Item, Kind, PolicyTexts, Request};
+use sm_wire::{Item, Kind, PolicyTexts, Request, push_malformed};
 use std::alloc::{AllocError, Global};
 
 /// A desk with the state of a session.
@@ -53,7 +53,7 @@ impl<D: Desk> SessionState<D> {
         }
         match item {
             Item::LineTooLong => replies.extend_from_slice(b"fault long\n"),
-            _ => replies.extend_from_slice(b"malformed\n"),
+            _ => push_malformed(replies),
         }
     }
 

@@ -2,7 +2,7 @@
 
 ghost use Rattle.std.specs.Prelude.{◌≡◌, ◌≤◌, ◌<◌, ◌+◌, ◌++◌, [], ◌∷◌, true, false, ◌==◌, ◌↔◌, ◌||◌, not, ℕ, min, max};
 ghost use Rattle.std.specs.Prelude.{if◌then◌else◌};
-ghost use Rattle.std.specs.Prelude.{nat_lt, length, is_some, Some, OnOk, IsOk, IsSome, IfOk, IfNone, IfSome};
+ghost use Rattle.std.specs.Prelude.{nat_lt, length, is_some, Some, None, OnOk, IsOk, IsSome, IfOk, IfNone, IfSome};
 ghost use Rattle.std.specs.Prelude.{MatchOption};
 ghost use Rattle.std.specs.List.{list_any};
 ghost use Rattle.sm_values.specs.declared.number.Node.{Node};
@@ -44,7 +44,7 @@ impl Drop for Grants {
 }
 
 impl Grants {
-    ghost use Rattle.sm_grants.specs.Rows.{slots_of, Tracks, CanGrant, spare_for};
+    ghost use Rattle.sm_grants.specs.Rows.{slots_of, table_of, Tracks, CanGrant, spare_for};
 
     /// Makes an empty table.
     pub fn new(alloc: Global) -> Grants
@@ -58,6 +58,7 @@ impl Grants {
     }
 
     /// Makes room for grants of `n` new objects to a client.
+    #[inline(always)]
     pub fn reserve(&mut self, client: u32, n: usize) -> Result<(), AllocError>
         ensures same { (d : Effects) → Tracks d self.old → Tracks d self.new }
         ensures room { OnOk result (n ≤ spare_for self.new client) }
@@ -72,16 +73,25 @@ impl Grants {
                 let row = &mut self.rows[i];
                 row.handles.reserve(n)
             }
-            None => {
-                self.rows.reserve(1)?;
-                let mut handles = Handles::new(self.alloc)?;
-                handles.reserve(n)?;
-                let place = place_for(&self.rows, client);
-                match self.rows.insert(place, ClientHandles { client, handles }) {
-                    Ok(()) => Ok(()),
-                    Err(_) => unreachable!(),
-                }
-            }
+            None => self.add_row(client, n),
+        }
+    }
+
+    /// As `reserve`, for a client without handles.
+    #[inline(never)]
+    fn add_row(&mut self, client: u32, n: usize) -> Result<(), AllocError>
+        requires { table_of self.old.rows.items client ≡ None }
+        ensures same { (d : Effects) → Tracks d self.old → Tracks d self.new }
+        ensures room { OnOk result (n ≤ spare_for self.new client) }
+        ensures spare { (k : ℕ) → spare_for self.old k ≤ spare_for self.new k }
+    {
+        self.rows.reserve(1)?;
+        let mut handles = Handles::new(self.alloc)?;
+        handles.reserve(n)?;
+        let place = place_for(&self.rows, client);
+        match self.rows.insert(place, ClientHandles { client, handles }) {
+            Ok(()) => Ok(()),
+            Err(_) => unreachable!(),
         }
     }
 

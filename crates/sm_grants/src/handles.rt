@@ -66,11 +66,35 @@ impl Handles {
     }
 
     /// Makes room for grants of `n` new objects.
+    #[inline(always)]
     pub fn reserve(&mut self, n: usize) -> Result<(), AllocError>
         ensures slots { self.new.slots ≡ self.old.slots }
         ensures room { OnOk result (n ≤ self.new.spare) }
         ensures spare { self.old.spare ≤ self.new.spare }
         ensures succeeds { n ≤ self.old.spare → IsOk result }
+    {
+        if n <= self.spare() {
+            return Ok(());
+        }
+        self.grow(n)
+    }
+
+    /// Returns how many new objects there is memory for.
+    #[inline(always)]
+    fn spare(&self) -> usize
+        ensures { result ≡ self.now.spare }
+    {
+        let slots = self.slots.capacity() - self.slots.len();
+        let numbers = self.numbers.capacity() - self.numbers.len();
+        slots.min(numbers)
+    }
+
+    /// As `reserve`, with allocations.
+    #[inline(never)]
+    fn grow(&mut self, n: usize) -> Result<(), AllocError>
+        ensures slots { self.new.slots ≡ self.old.slots }
+        ensures room { OnOk result (n ≤ self.new.spare) }
+        ensures spare { self.old.spare ≤ self.new.spare }
     {
         self.slots.reserve(n)?;
         self.numbers.reserve(n)

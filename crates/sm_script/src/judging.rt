@@ -19,7 +19,7 @@ use sm_core::Manager;
 use sm_history::{Answer, By, Event, Query, Record, Refusal, Reply};
 use sm_policy::Prepared;
 use sm_values::{AdminId, ClientId, Identity};
-use sm_wire::{Telling, push_denials, push_reply};
+use sm_wire::{Telling, push_denials, push_malformed, push_reply};
 use std::alloc::{AllocError, Global};
 
 /// The administrator of a script.
@@ -258,7 +258,7 @@ pub fn answer_nobody(_event: Event, replies: &mut Vec<u8>) -> Result<(), AllocEr
 pub fn answer_unasked(replies: &mut Vec<u8>) -> Result<(), AllocError>
     ensures { OnOk result (replies.new.items ≡ replies.old.items ++ codes "malformed\n") }
 {
-    replies.extend_from_slice(b"malformed\n")
+    push_malformed(replies)
 }
 
 // Appends the visible part of a reply, and the lines of its records.

@@ -15,7 +15,7 @@ use sm_engine::Machine;
 use sm_history::By;
 use sm_policy::Prepared;
 use sm_values::drop_fields;
-use sm_wire::{Item, PolicyTexts, Request, push_policy_refused};
+use sm_wire::{Item, PolicyTexts, Request, push_malformed, push_policy_refused};
 use std::alloc::{AllocError, Global};
 use std::marker::Model;
 
@@ -58,7 +58,7 @@ impl Machine for Script {
         match item {
             Item::Asked(request) => self.answer_request(request, replies, audit),
             Item::Policy(texts) => self.answer_policy(texts, replies, audit),
-            Item::Malformed => replies.extend_from_slice(b"malformed\n"),
+            Item::Malformed => push_malformed(replies),
             Item::LineTooLong => replies.extend_from_slice(b"fault long\n"),
         }
     }

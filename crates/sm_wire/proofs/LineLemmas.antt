@@ -32,13 +32,14 @@ line_kept p ps qs (word ∷ ts) same =
 -- The lines that come less often are left, if the word is none of the others.
 pub rare_lines_left : (who : Option ClientId) (fields : List (List ℕ)) → first_is (codes "get") fields ≡ false
     → first_is (codes "version") fields ≡ false → first_is (codes "take") fields ≡ false
-    → first_is (codes "call") fields ≡ false → first_is (codes "add") fields ≡ false
+    → first_is (codes "call") fields ≡ false → first_is (codes "release") fields ≡ false
+    → first_is (codes "add") fields ≡ false
     → lines_of (client_lines who) fields ≡ lines_of (rare_lines who) fields
-rare_lines_left who fields get version take call add =
+rare_lines_left who fields get version take call release add =
     line_left (get_line who) _ fields get ∙ line_kept (check_line who) _ _ fields (line_kept (list_line who) _ _ fields
     (line_left (version_line who) _ fields version ∙ line_left (call_line who) _ fields call
-    ∙ line_kept (release_line who) _ _ fields (line_left (take_line who) _ fields take
-    ∙ line_left (add_line who) _ fields add)))
+    ∙ line_left (release_line who) _ fields release ∙ line_left (take_line who) _ fields take
+    ∙ line_left (add_line who) _ fields add))
 
 -- The lines of a client are left, if the word isn't `hello`.
 pub client_lines_left : (fields : List (List ℕ)) → first_is (codes "hello") fields ≡ false

@@ -148,8 +148,7 @@ client_lines who =
 -- These are the lines of a client that come less often.
 abbrev pub rare_lines : Option ClientId → List Production
 rare_lines who =
-    check_line who ∷ list_line who ∷ release_line who ∷ watch_line who ∷ unwatch_line who ∷ unregister_line who
-    ∷ bye_line who ∷ []
+    check_line who ∷ list_line who ∷ watch_line who ∷ unwatch_line who ∷ unregister_line who ∷ bye_line who ∷ []
 
 -- These are the lines of a client's connection.
 abbrev pub connection_lines : List Production

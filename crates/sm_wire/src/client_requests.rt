@@ -45,6 +45,9 @@ pub fn client_request(
     if fields.takes(b"call") {
         return call(recent, client, fields, items);
     }
+    if fields.takes(b"release") {
+        return release(client, fields, items);
+    }
     if fields.takes(b"add") {
         return add(recent, client, fields, items);
     }
@@ -72,9 +75,6 @@ fn rare_request(
     }
     if spells(word, b"unregister") {
         return unregister(recent, client, fields, items);
-    }
-    if spells(word, b"release") {
-        return release(client, fields, items);
     }
     if spells(word, b"list") {
         return list(client, fields, items);

@@ -40,7 +40,7 @@ pub use lines::LineReader;
 pub use policy_refusals::push_policy_refused;
 pub use read_error::ReadError;
 pub use reload_header::ReloadHeader;
-pub use replies::{push_outcome, push_reply, reply_line};
+pub use replies::{push_malformed, push_outcome, push_reply, reply_line};
 pub use request::Request;
 pub use script_lines::{has_line, push_change, push_hello, push_reload};
 pub use telling::Telling;

@@ -1,11 +1,11 @@
 //! Reply lines.
 
-ghost use Rattle.std.specs.Prelude.{◌≡◌, ◌++◌, OnOk, IfOk, codes};
+ghost use Rattle.std.specs.Prelude.{◌≡◌, ◌++◌, OnOk, OnErr, IfOk, codes};
 ghost use Rattle.sm_values.specs.Messages.{numbered};
 ghost use Rattle.sm_wire.specs.Replies.{message_text, names_text, outcome_text, refusal_text, sealed_text, why_text, answer_text};
 ghost use Rattle.sm_wire.specs.Replies.{told_text, told_in};
 
-use crate::decimals::{push_numbered, push_small};
+use crate::decimals::{push_numbered, push_small, push_word};
 use crate::deliveries::push_delivery;
 use crate::names::push_names;
 use crate::refusals::push_refusal;
@@ -60,6 +60,15 @@ fn push_told(alloc: Global, out: &mut Vec<u8>, reply: &Reply) -> Result<(), Allo
     }
 }
 
+/// Appends the line that answers a request outside the grammar, with its newline. On error nothing was appended.
+#[inline(always)]
+pub fn push_malformed(out: &mut Vec<u8>) -> Result<(), AllocError>
+    ensures ok { OnOk result (out.new.items ≡ out.old.items ++ codes "malformed\n") }
+    ensures err { OnErr result (out.new.items ≡ out.old.items) }
+{
+    push_word(out, b"malformed\n")
+}
+
 /// Appends the line of an outcome, with its newline. On error a part may have been appended.
 #[inline(always)]
 #[tactic(auto, unfolding(crate::specs::Replies::outcome_text))]
@@ -72,7 +81,7 @@ pub fn push_outcome(alloc: Global, out: &mut Vec<u8>, outcome: &Outcome) -> Resu
         Outcome::Taken(delivery) => push_taken(alloc, out, delivery.get()),
         Outcome::Died => out.extend_from_slice(b"bye\n"),
         Outcome::Reloaded(version) => push_reloaded(out, *version),
-        _ => out.extend_from_slice(b"ok\n"),
+        _ => push_word(out, b"ok\n"),
     }
 }
 
@@ -176,10 +185,8 @@ fn push_two(out: &mut Vec<u8>, word: &[u8], first: u64, second: u64) -> Result<(
     ensures { OnOk result (out.new.items
         ≡ out.old.items ++ numbered word.now first ++ numbered (codes " ") second) }
 {
-    out.extend_from_slice(word)?;
-    push_small(out, first)?;
-    out.push(b' ')?;
-    push_small(out, second)
+    push_numbered(out, word, first)?;
+    push_numbered(out, b" ", second)
 }
 
 // Appends `names`, the version, the length, the number of names, and the names.

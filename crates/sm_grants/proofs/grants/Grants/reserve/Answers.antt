@@ -29,27 +29,6 @@ returns-in-Some-clause-room c =
     let own = changed_own rows _ c.args.client c.reserve.new.self (here.2 c.reserve.new.self) in
     rw own c.reserve.ensures.room
 
-pub returns-in-Ok-clause-same : goal.returns-in-Ok-clause-same
-returns-in-Ok-clause-same c d tr =
-    let rows = c.args.self.now.rows.items in
-    let none = none_here c.args.client c.deref.ensures.value c.in-None.ensures in
-    let r : ClientHandles = record { client = c.args.client; handles = c.reserve-in-None-2.new.self } in
-    rw (c.insert.ensures.items, c.in-Ok.is, c.reserve-in-None.ensures.items)
-    (tracks_pushed d rows c.place_for-place.result r none
-    (c.reserve-in-None-2.ensures.slots ∙ c.in_ok-handles-in-None.ensures) tr)
-
-pub returns-in-Ok-clause-room : goal.returns-in-Ok-clause-room
-returns-in-Ok-clause-room c =
-    let rows = c.args.self.now.rows.items in
-    let none = none_here c.args.client c.deref.ensures.value c.in-None.ensures in
-    let r : ClientHandles = record { client = c.args.client; handles = c.reserve-in-None-2.new.self } in
-    rw (
-      c.insert.ensures.items,
-      c.in-Ok.is,
-      c.reserve-in-None.ensures.items,
-      spare_pushed rows c.place_for-place.result r none,
-    ) c.in_ok-reserve-in-None-2.ensures.room
-
 pub returns-in-Some-clause-spare : goal.returns-in-Some-clause-spare
 returns-in-Some-clause-spare c k =
     let rows = c.args.self.now.rows.items in
@@ -71,29 +50,6 @@ no_spare rows client n none some le =
     let zero : spare_of rows client ≡ 0 = ap (λ (o : Option HandleTable). spare_in o) none in
     omega (arith, some, le, zero)
 
-pub returns-in_err-reserve-in-None-clause-succeeds : goal.returns-in_err-reserve-in-None-clause-succeeds
-returns-in_err-reserve-in-None-clause-succeeds c le =
-    absurd (no_spare c.args.self.now.rows.items c.args.client c.args.n
-    (none_here c.args.client c.deref.ensures.value c.in-None.ensures) (omega (arith, c.if-n-eq0.false)) le)
-
-pub returns-in_err-handles-in-None-clause-succeeds : goal.returns-in_err-handles-in-None-clause-succeeds
-returns-in_err-handles-in-None-clause-succeeds c le =
-    absurd (no_spare c.args.self.now.rows.items c.args.client c.args.n
-    (none_here c.args.client c.deref.ensures.value c.in-None.ensures) (omega (arith, c.if-n-eq0.false)) le)
-
-pub returns-in_err-reserve-in-None-2-clause-succeeds : goal.returns-in_err-reserve-in-None-2-clause-succeeds
-returns-in_err-reserve-in-None-2-clause-succeeds c le =
-    absurd (no_spare c.args.self.now.rows.items c.args.client c.args.n
-    (none_here c.args.client c.deref.ensures.value c.in-None.ensures) (omega (arith, c.if-n-eq0.false)) le)
-
-pub returns-in-Ok-clause-spare : goal.returns-in-Ok-clause-spare
-returns-in-Ok-clause-spare c k =
-    let rows = c.args.self.now.rows.items in
-    let none = none_here c.args.client c.deref.ensures.value c.in-None.ensures in
-    let r : ClientHandles = record { client = c.args.client; handles = c.reserve-in-None-2.new.self } in
-    rw (c.insert.ensures.items, c.in-Ok.is, c.reserve-in-None.ensures.items)
-    (spare_more rows c.place_for-place.result r none k)
-
 pub invariant_of-self : goal.invariant_of-self
 invariant_of-self c =
     let rows = c.args.self.now.rows.items in
@@ -110,25 +66,10 @@ invariant_of-self c =
           c.args.self.now.once;
     }
 
-either : (P : List ClientHandles → Type 0) (b : Bool) (xs ys zs : List ClientHandles)
-    → zs ≡ (if b then xs else ys) → P xs → P ys → P zs
-either P true xs ys zs e p q = subst P (sym e) p
-either P false xs ys zs e p q = subst P (sym e) q
+pub add_row-requires : goal.add_row-requires
+add_row-requires c = none_here c.args.client c.deref.ensures.value c.in-None.ensures
 
-pub invariant_of-self-in-None : goal.invariant_of-self-in-None
-invariant_of-self-in-None c =
-    let rows = c.args.self.now.rows.items in
-    let none = none_here c.args.client c.deref.ensures.value c.in-None.ensures in
-    let r : ClientHandles = record { client = c.args.client; handles = c.reserve-in-None-2.new.self } in
-    let items = rw c.reserve-in-None.ensures.items at c.insert.ensures.items in
-    record {
-      bounded = either (λ v. highest v ≤ c.args.self.now.bound) (is_ok c.insert.result)
-          (insert rows c.place_for-place.result r) rows
-          c.insert.new.self.items items
-          (inserted_bounded rows c.place_for-place.result c.args.self.now.bound r c.args.self.now.bounded
-          (c.reserve-in-None-2.ensures.slots ∙ c.in_ok-handles-in-None.ensures)) c.args.self.now.bounded;
-      once = either AreOnce (is_ok c.insert.result) (insert rows c.place_for-place.result r) rows
-          c.insert.new.self.items items
-          (once_inserted rows c.place_for-place.result r none c.args.self.now.once)
-          c.args.self.now.once;
-    }
+pub returns-in-None-clause-succeeds : goal.returns-in-None-clause-succeeds
+returns-in-None-clause-succeeds c le =
+    absurd (no_spare c.args.self.now.rows.items c.args.client c.args.n
+    (none_here c.args.client c.deref.ensures.value c.in-None.ensures) (omega (arith, c.if-n-eq0.false)) le)
