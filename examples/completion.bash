@@ -11,6 +11,7 @@ _svcmgr() {
         access) options="--source --target --name --class --perm --help" ;;
         rules) options="--kind --source --target --name --class --perm --help" ;;
         types) options="--of --help" ;;
+        names) options="--source --perm --help" ;;
         suggest) options="--help" ;;
         unused) options="--help" ;;
         diff) options="--help" ;;
@@ -18,10 +19,11 @@ _svcmgr() {
     esac
     # The words for this place, if files don't fit.
     case "$COMP_CWORD $command $before" in
-        "1 "*) words="run check serve label explain access rules types suggest unused diff admin --help --version" ;;
+        "1 "*) words="run check serve label explain access rules types names suggest unused diff admin --help --version" ;;
         *" rules --kind") words="allow neverallow dontaudit" ;;
         *" access --class" | *" rules --class") words="service_manager binder" ;;
         *" access --perm" | *" rules --perm") words="add find list impersonate call set_context_mgr transfer" ;;
+        *" names --perm") words="add find list" ;;
         "2 admin admin") words="version denials seal reload explain" ;;
         "4 admin "*) [ "${COMP_WORDS[2]}" = --admin ] && words="version denials seal reload explain" ;;
     esac

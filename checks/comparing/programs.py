@@ -41,6 +41,8 @@ def command_of(question):
         words = []
     elif command == "types":
         options, words = ["--of", *words] if words[0] is not None else [], []
+    elif command == "names":
+        options, words = ["--source", words[0], *(["--perm", words[1]] if words[1] is not None else [])], []
     elif command == "diff":
         files = FILES
     elif command == "suggest":

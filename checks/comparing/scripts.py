@@ -241,8 +241,11 @@ class Drawing(PolicyDrawing):
             return ("access", *left) if kind < 0.6 else ("rules", self.one(RULE_KINDS), *left)
         if kind < 0.8:
             return ("unused",)
-        if kind < 0.85:
+        if kind < 0.83:
             return ("types", self.one([*TYPES, "domain", "unknown", ""]) if self.is_so(0.4) else None)
+        if kind < 0.86:
+            words = self.one([*TYPES, "domain", "unknown"]), self.one([*PERMS_OF["service_manager"], "call", "unknown"])
+            return ("names", words[0], words[1] if self.is_so(0.7) else None)
         return ("diff",) if kind < 0.9 else ("suggest", self.log())
 
     # Logs.

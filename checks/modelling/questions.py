@@ -165,6 +165,15 @@ def types(kind, rules, contexts, name=None):
     return lines(" ".join(words) for words in found if name in (None, words[1])), "", 0
 
 
+@asked
+def names(kind, rules, contexts, source, perm=None):
+    policy, perm = read_policy(rules, contexts, kind), perm or "find"
+    known(policy, source, None, "service_manager", perm)
+    found = [(key, type_of(context)) for _, key, context in policy.entries]
+    listed = [each for each in found if policy.is_allowed(source, each[1], "service_manager", perm)]
+    return lines(" ".join(each) for each in listed), "", 0
+
+
 def covered_by(policy, rule):
     return {access for access in every_access(policy) if rule.covers(*access)}
 

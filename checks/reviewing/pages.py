@@ -21,6 +21,7 @@ PAGES = {
         "sm_questions::listing::access",
         "sm_questions::rule_listing::rules",
         "sm_listings::listing::types",
+        "sm_listings::naming::names",
         "sm_suggestions::suggesting::suggest",
         "sm_unused::listing::unused",
         "sm_questions::comparing::diff",

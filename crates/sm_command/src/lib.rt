@@ -19,7 +19,9 @@ pub use ending::{Ending, NO_MEMORY, lock_of};
 pub use files::{read_limited, read_log};
 pub use options::{Invocation, Mode, Options, invocation_of, words_of};
 pub use parser::VERSION;
-pub use question::{AccessWords, FilterWords, NewFiles, Question, RuleFilterWords, TargetWord};
+pub use question::{
+    AccessWords, FilterWords, NameWords, NewFiles, Question, RuleFilterWords, TargetWord,
+};
 pub use request_lines::{explain_line, is_granted, is_whole, reload_request, version_in};
 pub use sockets::Sockets;
 pub use unknown::unknown_line;

@@ -25,7 +25,7 @@ pub enum Mode<'a> {
     /// `svcmgr serve [--journal N] [--seal-at N] [--seal-bytes N] [--workers W] [--mode MODE] [--audit]
     /// [--audit-rate N] [--take-wait MS] --socket PATH --admin PATH RULES CONTEXTS`
     Serve(Sockets<'a>),
-    /// `svcmgr label`, `explain`, `access`, `types` or `diff`
+    /// `svcmgr label`, `explain`, `access`, `types`, `names` or `diff`
     Ask(Question<'a>),
     /// `svcmgr rules [--kind KIND] [--source TYPE] [--target TYPE] [--name NAME] [--class CLASS] [--perm PERM] RULES
     /// CONTEXTS`

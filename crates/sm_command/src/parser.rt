@@ -18,6 +18,7 @@ pub fn command<'a>(alloc: Global) -> Result<Command<'a>, AllocError> {
         .subcommand(access(alloc))
         .subcommand(rules(alloc))
         .subcommand(types(alloc))
+        .subcommand(names(alloc))
         .subcommand(suggest(alloc))
         .subcommand(unused(alloc))
         .subcommand(diff(alloc))
@@ -97,6 +98,16 @@ fn types<'a>(alloc: Global) -> Building<'a> {
     let name = "Only the type or the attribute of this name";
     let types = Building::new(alloc, "types", about).arg(word(alloc, "of", "NAME", name));
     with_files(alloc, types)
+}
+
+fn names<'a>(alloc: Global) -> Building<'a> {
+    let about = "Lists the names of services for which a source has a permission, with their types";
+    let source = "The type that has the permission";
+    let perm = "The permission of service_manager";
+    let names = Building::new(alloc, "names", about)
+        .arg(word(alloc, "source", "TYPE", source).required(true))
+        .arg(word(alloc, "perm", "PERM", perm).default_value("find"));
+    with_files(alloc, names)
 }
 
 fn suggest<'a>(alloc: Global) -> Building<'a> {

@@ -13,6 +13,8 @@ pub enum Question<'a> {
     Access(FilterWords<'a>),
     /// `svcmgr types [--of NAME] RULES CONTEXTS`, of which this is the name.
     Types(Option<&'a str>),
+    /// `svcmgr names --source TYPE [--perm PERM] RULES CONTEXTS`
+    Names(NameWords<'a>),
     /// `svcmgr diff RULES CONTEXTS NEWRULES NEWCONTEXTS`
     Diff(NewFiles<'a>),
 }
@@ -52,6 +54,13 @@ pub struct RuleFilterWords<'a> {
     pub accesses: FilterWords<'a>,
 }
 
+/// The words for a list of names.
+#[derive(Clone, Copy, PartialEq, Eq)]
+pub struct NameWords<'a> {
+    pub source: &'a str,
+    pub perm: &'a str,
+}
+
 /// The files of the policy that another one is compared with.
 #[derive(Clone, Copy, PartialEq, Eq)]
 pub struct NewFiles<'a> {
@@ -66,6 +75,7 @@ pub fn question_of<'a>(name: &str, matches: &ArgMatches<'a>) -> Option<Question<
         "explain" => Some(Question::Explain(access_of(matches)?)),
         "access" => Some(Question::Access(filter_of(matches))),
         "types" => Some(Question::Types(matches.get_str("of"))),
+        "names" => Some(Question::Names(name_words_of(matches)?)),
         "diff" => Some(Question::Diff(new_files_of(matches)?)),
         _ => None,
     }
@@ -108,6 +118,13 @@ fn target_of<'a>(matches: &ArgMatches<'a>) -> Option<TargetWord<'a>> {
         Some(target) => Some(TargetWord::Type(target)),
         None => Some(TargetWord::Name(matches.get_str("name")?)),
     }
+}
+
+fn name_words_of<'a>(matches: &ArgMatches<'a>) -> Option<NameWords<'a>> {
+    Some(NameWords {
+        source: matches.get_str("source")?,
+        perm: matches.get_str("perm")?,
+    })
 }
 
 fn new_files_of<'a>(matches: &ArgMatches<'a>) -> Option<NewFiles<'a>> {

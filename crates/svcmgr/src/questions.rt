@@ -6,11 +6,11 @@ ghost use Rattle.sm_policy.specs.Preparing.{rules_of};
 use crate::pipe::Pipe;
 use crate::{fail, text_of};
 use sm_command::{
-    AccessWords, Ending, FilterWords, NO_MEMORY, NewFiles, Options, Question, RuleFilterWords,
-    TargetWord, read_log, unknown_line,
+    AccessWords, Ending, FilterWords, NO_MEMORY, NameWords, NewFiles, Options, Question,
+    RuleFilterWords, TargetWord, read_log, unknown_line,
 };
 use sm_engine::{Counted, Fault, write_whole};
-use sm_listings::{knows, types};
+use sm_listings::{knows, names, types};
 use sm_policy::{PolicyFault, Prepared};
 use sm_questions::{
     FilterOptions, RuleOptions, Target, Unknown, access, diff, explain, label, read_access,
@@ -142,6 +142,7 @@ fn answer<'a>(
         Question::Explain(words) => tell_rule(rt, policy, words),
         Question::Access(words) => tell_accesses(rt, policy, words),
         Question::Types(name) => tell_types(rt, policy, name),
+        Question::Names(words) => tell_names(rt, policy, words),
         Question::Diff(files) => tell_differences(rt, policy, files),
     }
 }
@@ -258,6 +259,23 @@ fn tell_types<'a>(
     let name = name.map(word);
     let mut writer = Counted::new(Pipe::new(rt.stdout()));
     let ended = types(rt.alloc(), policy, &name, &mut writer);
+    listed(ended, writer.into_inner().is_closed())
+}
+
+/// Lists the names for which a source has a permission.
+fn tell_names<'a>(
+    rt: &HostRuntime,
+    policy: &Prepared,
+    words: NameWords<'_>,
+) -> Result<ExitCode, Ending<'a>> {
+    let source = words.source.as_bytes();
+    let perm = words.perm.as_bytes();
+    let perm = match read_access(policy, source, source, b"service_manager", perm) {
+        Ok((_, perm)) => perm,
+        Err(unknown) => return Ok(refuse_word(rt, &unknown)),
+    };
+    let mut writer = Counted::new(Pipe::new(rt.stdout()));
+    let ended = names(rt.alloc(), policy, source, perm, &mut writer);
     listed(ended, writer.into_inner().is_closed())
 }
 

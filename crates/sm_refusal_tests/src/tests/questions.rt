@@ -3,7 +3,7 @@
 use super::manager::prepared;
 use super::outcome::same_text;
 use sm_engine::{Counted, Fault};
-use sm_listings::types;
+use sm_listings::{names, types};
 use sm_policy::{PolicyFault, Prepared};
 use sm_questions::{
     FilterOptions, RuleOptions, Target, Unknown, access, all_shown_lines, check_all, diff, explain,
@@ -125,6 +125,14 @@ fn lists_types(rt: &impl Abort, alloc: Global) -> Option<()> {
     )
 }
 
+/// Lists the names that an application may find.
+fn lists_names(rt: &impl Abort, alloc: Global) -> Option<()> {
+    let policy = prepared(rt, alloc, DEVICE_RULES)?;
+    let mut writer = Counted::new(Vec::new(alloc));
+    let fault = names(alloc, &policy, b"untrusted_app", Perms::FIND, &mut writer).err();
+    wrote(rt, fault, writer, b"activity activity_service\n")
+}
+
 const NEEDLESS_RULE: &[u8] = b"allow untrusted_app activity_service:service_manager find;\n";
 
 const UNUSED_TOLD: &[u8] =
@@ -223,6 +231,7 @@ fn answers(rt: &impl Abort, alloc: Global, old: &Prepared, new: &Prepared) {
     again!(rt; lists_rules(rt, alloc));
     again!(rt; suggests(rt, alloc, old));
     again!(rt; lists_types(rt, alloc));
+    again!(rt; lists_names(rt, alloc));
     again!(rt; lists_unused(rt, alloc));
     again!(rt; compares(rt, alloc, old, new));
     again!(rt; names_a_word(rt, alloc));
