@@ -5,7 +5,7 @@ _svcmgr() {
     case "$command" in
         run) options="--journal --help" ;;
         check) options="--all --show --help" ;;
-        serve) options="--journal --seal-at --seal-bytes --workers --mode --audit --audit-rate --take-wait --socket --admin --help" ;;
+        serve) options="--journal --seal-at --seal-bytes --workers --mode --audit --audit-rate --take-wait --status --socket --admin --help" ;;
         label) options="--help" ;;
         explain) options="--name --help" ;;
         access) options="--source --target --name --class --perm --help" ;;
@@ -16,10 +16,11 @@ _svcmgr() {
         unused) options="--help" ;;
         diff) options="--help" ;;
         admin) options="--admin --help" ;;
+        status) options="--status --help" ;;
     esac
     # The words for this place, if files don't fit.
     case "$COMP_CWORD $command $before" in
-        "1 "*) words="run check serve label explain access rules types names suggest unused diff admin --help --version" ;;
+        "1 "*) words="run check serve label explain access rules types names suggest unused diff admin status --help --version" ;;
         *" rules --kind") words="allow neverallow dontaudit" ;;
         *" access --class" | *" rules --class") words="service_manager binder" ;;
         *" access --perm" | *" rules --perm") words="add find list impersonate call set_context_mgr transfer" ;;

@@ -6,7 +6,7 @@ use crate::administration::{Administration, administration_of, misused_request};
 use crate::numbers::odd_number;
 use crate::parser::command;
 use crate::question::{Question, RuleFilterWords, question_of, rule_filter_of};
-use crate::sockets::{DEFAULT_SLOTS, Sockets, misused, slots_of, sockets_of};
+use crate::sockets::{DEFAULT_SLOTS, NO_STATUS_PATH, Sockets, misused, slots_of, sockets_of};
 use clap::error::ErrorKind;
 use clap::{ArgMatches, Error};
 use sm_values::Places;
@@ -23,7 +23,7 @@ pub enum Mode<'a> {
     /// refusal names is shown.
     Check { all: bool, show: bool },
     /// `svcmgr serve [--journal N] [--seal-at N] [--seal-bytes N] [--workers W] [--mode MODE] [--audit]
-    /// [--audit-rate N] [--take-wait MS] --socket PATH --admin PATH RULES CONTEXTS`
+    /// [--audit-rate N] [--take-wait MS] [--status PATH] --socket PATH --admin PATH RULES CONTEXTS`
     Serve(Sockets<'a>),
     /// `svcmgr label`, `explain`, `access`, `types`, `names` or `diff`
     Ask(Question<'a>),
@@ -43,6 +43,8 @@ pub enum Invocation<'a> {
     Policy(Options<'a>),
     /// `svcmgr admin`
     Administer(Administration<'a>),
+    /// `svcmgr status [--status PATH]`, with the path of the owner's socket if the command line has it.
+    Status(Option<&'a str>),
 }
 
 /// The options of a command that reads a policy.
@@ -93,6 +95,7 @@ fn matches_of<'a>(alloc: Global, words: &'a [String]) -> Result<ArgMatches<'a>, 
 fn invocation_in<'a>(alloc: Global, matches: &ArgMatches<'a>) -> Result<Invocation<'a>, Error> {
     match matches.subcommand() {
         Some(("admin", matches)) => administration_in(alloc, matches),
+        Some(("status", matches)) => status_in(alloc, matches),
         Some((name, matches)) => options_in(alloc, name, matches),
         None => Err(no_command(alloc)),
     }
@@ -105,6 +108,13 @@ fn administration_in<'a>(alloc: Global, matches: &ArgMatches<'a>) -> Result<Invo
     match misused_request(&administration) {
         Some(fault) => Err(misuse(alloc, ErrorKind::ValueValidation, fault)),
         None => Ok(Invocation::Administer(administration)),
+    }
+}
+
+fn status_in<'a>(alloc: Global, matches: &ArgMatches<'a>) -> Result<Invocation<'a>, Error> {
+    match matches.get_str("status") {
+        Some("") => Err(misuse(alloc, ErrorKind::ValueValidation, NO_STATUS_PATH)),
+        socket => Ok(Invocation::Status(socket)),
     }
 }
 

@@ -23,6 +23,7 @@ pub fn command<'a>(alloc: Global) -> Result<Command<'a>, AllocError> {
         .subcommand(unused(alloc))
         .subcommand(diff(alloc))
         .subcommand(admin(alloc))
+        .subcommand(status(alloc))
         .end()
 }
 
@@ -57,6 +58,12 @@ fn serve<'a>(alloc: Global) -> Building<'a> {
         .arg(audit(alloc))
         .arg(audit_rate(alloc))
         .arg(take_wait(alloc))
+        .arg(word(
+            alloc,
+            "status",
+            "PATH",
+            "The owner's socket, at which the server tells its state",
+        ))
         .arg(socket(alloc, "socket", "The clients' socket"))
         .arg(socket(alloc, "admin", "The administrators' socket"));
     with_files(alloc, serve)
@@ -154,6 +161,12 @@ fn admin<'a>(alloc: Global) -> Building<'a> {
         .subcommand(Building::new(alloc, "seal", seal))
         .subcommand(with_files(alloc, Building::new(alloc, "reload", "Replaces the policy")))
         .subcommand(with_access(alloc, Building::new(alloc, "explain", explain), "A type"))
+}
+
+fn status<'a>(alloc: Global) -> Building<'a> {
+    let path = "The owner's socket; without it that of SVCMGR_STATUS";
+    let about = "Tells what a running server has: clients, services and watches";
+    Building::new(alloc, "status", about).arg(word(alloc, "status", "PATH", path))
 }
 
 /// Adds the words of an access to a command.

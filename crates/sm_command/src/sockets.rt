@@ -18,6 +18,8 @@ pub struct Sockets<'a> {
     pub clients: &'a str,
     /// The path of the administrators' socket.
     pub admins: &'a str,
+    /// The path of the owner's socket, if there is to be one.
+    pub status: Option<&'a str>,
     /// 1 to 64 threads, each of which serves one client at a time.
     pub workers: u32,
     /// The permissions of the clients' socket, at most 0o777. `None`: the umask decides.
@@ -39,6 +41,7 @@ pub fn sockets_of<'a>(matches: &ArgMatches<'a>) -> Option<Sockets<'a>> {
     Some(Sockets {
         clients: matches.get_str("socket")?,
         admins: matches.get_str("admin")?,
+        status: matches.get_str("status"),
         workers: matches.get_one::<u32>("workers")?,
         mode: matches.get_str("mode").and_then(permissions_of),
         seal_at: entries_to_seal_at(matches),
@@ -87,16 +90,8 @@ fn permissions_of(text: &str) -> Option<u32> {
 
 /// Returns what is wrong with a server's options, each of which is valid by itself.
 pub fn misused(matches: &ArgMatches) -> Option<&'static str> {
-    let clients = matches.get_str("socket")?;
-    let admins = matches.get_str("admin")?;
-    if clients.is_empty() {
-        return Some("the path of --socket is empty");
-    }
-    if admins.is_empty() {
-        return Some("the path of --admin is empty");
-    }
-    if clients == admins {
-        return Some("--socket and --admin have the same path");
+    if let Some(fault) = misused_paths(matches) {
+        return Some(fault);
     }
     if matches.get_one::<u32>("seal-at") > Some(slots_of(matches) / 2) {
         return Some("--seal-at is greater than half of the slots in the journal");
@@ -110,3 +105,29 @@ pub fn misused(matches: &ArgMatches) -> Option<&'static str> {
         None => Some("--mode isn't an octal number from 0 to 777"),
     }
 }
+
+/// Returns what is wrong with the paths of a server's sockets.
+fn misused_paths(matches: &ArgMatches) -> Option<&'static str> {
+    let clients = matches.get_str("socket")?;
+    let admins = matches.get_str("admin")?;
+    if clients.is_empty() {
+        return Some("the path of --socket is empty");
+    }
+    if admins.is_empty() {
+        return Some("the path of --admin is empty");
+    }
+    if clients == admins {
+        return Some("--socket and --admin have the same path");
+    }
+    let status = matches.get_str("status")?;
+    if status.is_empty() {
+        return Some(NO_STATUS_PATH);
+    }
+    if status == clients || status == admins {
+        return Some("--status has the path of another socket");
+    }
+    None
+}
+
+/// What is wrong with an empty path of the owner's socket.
+pub const NO_STATUS_PATH: &str = "the path of --status is empty";

@@ -15,6 +15,7 @@ mod opening;
 mod releasing;
 mod reloading;
 mod taking;
+mod telling;
 mod unregistering;
 mod watching;
 

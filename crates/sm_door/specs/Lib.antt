@@ -4,3 +4,4 @@ pub mod Opening
 pub mod SeatsOrSessions
 pub mod Locked
 pub mod Logged
+pub mod Telling

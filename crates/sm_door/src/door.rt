@@ -22,6 +22,7 @@ ghost use Rattle.sm_history.specs.declared.limits.TheConstants.{MOST_CLIENTS};
 ghost use Rattle.sm_door.specs.declared.opening.TheConstants.{ADMINS};
 ghost use Rattle.sm_door.specs.Logged.{Logged, ReadLogged};
 ghost use Rattle.sm_door.specs.Opening.{new_seats, new_admins};
+ghost use Rattle.sm_door.specs.Telling.{TellsState};
 
 use crate::actor::Actor;
 use crate::admin::Admin;
@@ -42,8 +43,9 @@ use sm_history::{
     is_death,
 };
 use sm_policy::Prepared;
+use sm_status::Status;
 use sm_values::{Class, Identity, Name, Perms, Places};
-use std::alloc::Global;
+use std::alloc::{AllocError, Global};
 use std::sync::{Arc, Mutex, MutexGuard, Wait};
 
 /// How often a thread tries to take the lock before it sleeps. Between two tries it spins, longer each time, up to 64
@@ -276,6 +278,18 @@ impl<J: Naming, G: Gate + Drop> Door<J, G> {
         let records = locked.denials(rt, &mut me.actor);
         MutexGuard::unlock(guard);
         records
+    }
+
+    /// Returns the state that the history left which the token sees now. It shares texts and the policy with the manager.
+    /// Returns an error if an allocation failed; the token then stays as it is.
+    pub fn status<R: Wait>(&self, rt: &R, me: &mut Admin<J>) -> Result<Status, AllocError>
+        ensures { MatchResult result (λ s. TellsState me.old me.new s) (λ e. me.new ≡ me.old) }
+    {
+        let guard = self.lock(rt);
+        let locked = &*guard;
+        let status = locked.status(rt, &mut me.actor);
+        MutexGuard::unlock(guard);
+        status
     }
 
     /// Closes the open segment, and returns it. The token then sees the next segment, without changes. `Empty` if there

@@ -15,8 +15,10 @@ ghost use Rattle.sm_history.specs.PossibleReplies.{OfConnect};
 ghost use Rattle.sm_history.specs.Promises.{Submitted, Joined, Turned, TellsRecords, NotTold, Closed, NotClosed};
 ghost use Rattle.sm_history.specs.Steps.{Steps, ClosesSegment, StaysOpen};
 ghost use Rattle.sm_history.specs.Tokens.{Sees, keeps_turn, turn};
+ghost use Rattle.sm_status.specs.States.{state_of};
 ghost use Rattle.sm_door.specs.Locked.{Connects};
 ghost use Rattle.sm_door.specs.Logged.{Logged};
+ghost use Rattle.sm_door.specs.Telling.{TellsState};
 
 use crate::actor::Actor;
 use crate::published::Published;
@@ -28,6 +30,7 @@ use crate::shared_view::SharedView;
 use left_right::Absorb;
 use sm_core::{Manager, Ready, ReadySeal, View};
 use sm_history::{By, Event, Failure, Gate, Record, Refusal, Reply, Segment, connected, moves};
+use sm_status::Status;
 use sm_values::Identity;
 use std::alloc::{AllocError, Global};
 use std::marker::Model;
@@ -198,6 +201,17 @@ impl<J: Naming> LockedManager<J> {
         } else {
             Err(Refusal::Failed(Failure::OutOfTurn(me.due())))
         }
+    }
+
+    /// Returns the state that the history left. The token then sees this history. If an allocation failed, the token stays
+    /// as it is.
+    pub fn status<R: Wait>(&self, rt: &R, me: &mut Actor<J>) -> Result<Status, AllocError>
+        ensures { MatchResult result (λ s. (s ≡ state_of self.now.book.history) × TellsState me.old me.new s)
+            (λ e. me.new ≡ me.old) }
+    {
+        let status = self.manager.status()?;
+        me.see(rt, self);
+        Ok(status)
     }
 
     /// Shows two tokens the whole history. Returns whether it has as many changes of each one's actor as the token knew.

@@ -11,7 +11,7 @@ ghost use Rattle.sm_history.specs.Effects.{Effects, same_node};
 ghost use Rattle.sm_history.specs.declared.effect.Effect.TheVariants.{Gives, Releases, Dies};
 ghost use Rattle.sm_history.specs.Clients.{is_live};
 ghost use Rattle.sm_history.specs.Holdings.{refs_at, resolve_at, node_at, number_for, fits_handles};
-ghost use Rattle.sm_history.specs.Holdings.{is_held, is_in_use};
+ghost use Rattle.sm_history.specs.Holdings.{held_nodes, is_held, is_in_use};
 ghost use Rattle.sm_history.specs.Tables.{Slots, slot, slot_at};
 ghost use Rattle.sm_grants.specs.Slots.{node_of, held_in, is_in, IsAbsent, IsNumberFor};
 ghost use Rattle.sm_grants.specs.Highest.{highest};
@@ -310,6 +310,13 @@ impl Grants {
         }
         let free = self.free_from(client, behind);
         (free as u32 + 1, free + 1, true)
+    }
+
+    /// Returns the number of objects that a client holds.
+    pub fn held(&self, client: u32) -> usize
+        ensures { (d : Effects) → Tracks d self.now → result ≡ length (held_nodes d client) }
+    {
+        self.len_of(client)
     }
 
     /// Returns the number of objects that a client doesn't hold, each counted once.

@@ -91,8 +91,9 @@ impl Inboxes {
     }
 
     /// Returns the number of a client's deliveries.
-    fn waiting(&self, client: u32) -> usize
-        ensures { result ≡ length (deliveries_of self.now client) }
+    pub fn waiting(&self, client: u32) -> usize
+        ensures is { result ≡ length (deliveries_of self.now client) }
+        ensures tracks { (d : Effects) → TracksInboxes d self.now → result ≡ length (inbox_at d client) }
     {
         match inbox_index(&self.rows, client) {
             Some(i) => self.rows[i].waiting.len(),

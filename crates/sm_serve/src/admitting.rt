@@ -50,6 +50,7 @@ fn pass<C: Entrance, H: Supervisor, R: Wait + Clock>(
     faults: &Faults,
     arrived: Arrived,
 ) -> bool {
+    queue.note_others(crowd.others());
     let mut waiting = match queue.offer(rt, to, arrived, AT_ONCE) {
         Offered::Taken => {
             crowd.disperse();
@@ -68,6 +69,7 @@ fn pass<C: Entrance, H: Supervisor, R: Wait + Clock>(
             Offered::Closed => return close(rt, host, faults),
         }
         crowd.report(host);
+        queue.note_others(crowd.others());
     }
     waiting.turn_away(faults.live().turned_away());
     false

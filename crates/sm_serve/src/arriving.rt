@@ -6,6 +6,7 @@ use crate::faults::Faults;
 use sm_account::{ServerEvent, Supervisor};
 use sm_engine::ServeFault;
 use std::io::{self, ErrorKind};
+use std::os::unix::net::UnixStream;
 use std::rt::Clock;
 use std::sync::Wait;
 use std::thread;
@@ -53,13 +54,24 @@ pub fn arrival<E: Entrance, H: Supervisor, R: Wait + Clock>(
     host: &H,
     faults: &Faults,
 ) -> Option<Arrived> {
+    let stream = next_stream(rt, entrance, host, faults)?;
+    unless_noted(rt, faults, Arrived::new(stream))
+}
+
+/// Returns the next connection as a stream, or `None` if the listener failed for good, or if there is a fault.
+pub fn next_stream<E: Entrance, H: Supervisor, R: Wait + Clock>(
+    rt: &R,
+    entrance: &mut E,
+    host: &H,
+    faults: &Faults,
+) -> Option<UnixStream> {
     let mut told = false;
     for _ in rt.forever() {
         if faults.is_noted(rt) {
             return None;
         }
         match entrance.accept() {
-            Ok(stream) => return unless_noted(rt, faults, Arrived::new(stream)),
+            Ok(stream) => return Some(stream),
             Err(error) => match failure_of(&error) {
                 AcceptFailure::Passing => {}
                 AcceptFailure::Shortage => {

@@ -59,10 +59,15 @@ impl<'a, C: Entrance> Crowd<'a, C> {
         self.is_reported = false;
     }
 
+    /// Returns the number of connections that were accepted before a worker was free for them.
+    pub fn others(&self) -> usize {
+        self.waiting.len()
+    }
+
     /// Reports that a connection has waited for a worker for a second, and how many others wait, once until one needn't.
     pub fn report<H: Supervisor>(&mut self, host: &H) {
+        let others = self.gather();
         if !self.is_reported {
-            let others = self.gather();
             host.tell(ServerEvent::ClientWaits { others });
         }
         self.is_reported = true;

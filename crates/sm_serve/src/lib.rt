@@ -1,4 +1,5 @@
 //! A server of connections at a door: sessions of clients in worker threads, and those of administrators in one more.
+//! A third kind of connections, those of the owner, are told the state of the manager.
 #![tactic(auto)]
 
 mod accounts;
@@ -12,9 +13,11 @@ mod faults;
 mod heartbeat;
 mod level;
 mod live;
+mod load;
 mod log_lines;
 mod log_writer;
 mod operator;
+mod owner;
 mod pace;
 mod pages;
 mod patience;

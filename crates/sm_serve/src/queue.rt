@@ -1,6 +1,7 @@
 //! The passage from the thread that accepts clients' connections to the workers.
 
 use crate::arrived::Arrived;
+use crate::load::Load;
 use crate::turned_away::TurnedAway;
 use crossbeam_channel::{Receiver, SendTimeoutError, Sender, bounded};
 use std::alloc::{AllocError, Global};
@@ -19,6 +20,11 @@ pub struct Queue {
     offered: Mutex<Vec<Arrived>>,
     // Whether a connection waits for a worker: `NOBODY` or `SOMEBODY`.
     waiting: AtomicU64,
+    // The connections that wait behind it.
+    others: AtomicU64,
+    // The workers that serve a connection.
+    busy: AtomicU64,
+    workers: u32,
 }
 
 const NOBODY: u64 = 0;
@@ -37,6 +43,9 @@ pub fn queue_of(alloc: Global, workers: u32) -> Result<(Arrivals, Queue), AllocE
                 turns: Mutex::new(from),
                 offered: Mutex::new(offered),
                 waiting: AtomicU64::new(NOBODY),
+                others: AtomicU64::new(0),
+                busy: AtomicU64::new(0),
+                workers,
             },
         )),
         Err(_) => {
@@ -82,6 +91,9 @@ impl Queue {
             turns: _,
             offered,
             waiting: _,
+            others: _,
+            busy: _,
+            workers: _,
         } = self;
         let mut left = offered.into_inner();
         while let Some(arrived) = left.pop() {
@@ -93,6 +105,32 @@ impl Queue {
     /// Returns whether a connection waits for a worker.
     pub fn is_crowded(&self) -> bool {
         self.waiting.load(Ordering::SeqCst) == SOMEBODY
+    }
+
+    /// Notes how many connections wait behind the one that is offered.
+    pub fn note_others(&self, number: usize) {
+        self.others.store(number as u64, Ordering::SeqCst);
+    }
+
+    /// Notes that a worker begins to serve a connection.
+    pub fn begin_work(&self) {
+        self.busy.fetch_add(1, Ordering::SeqCst);
+    }
+
+    /// Notes that a worker has served a connection.
+    pub fn end_work(&self) {
+        self.busy.fetch_sub(1, Ordering::SeqCst);
+    }
+
+    /// Returns what the workers have to do.
+    pub fn load(&self) -> Load {
+        let first = self.waiting.load(Ordering::SeqCst);
+        let others = self.others.load(Ordering::SeqCst);
+        Load {
+            busy: self.busy.load(Ordering::SeqCst),
+            workers: u64::from(self.workers),
+            waiting: first.saturating_add(others),
+        }
     }
 
     /// Offers a connection to the workers for this number of milliseconds.

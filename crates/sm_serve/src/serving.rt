@@ -6,12 +6,13 @@ ghost use Rattle.sm_account.specs.Served.{OneRun};
 use crate::accounts::Accounts;
 use crate::admitting::admit;
 use crate::arrived::Arrived;
-use crate::arriving::arrival;
+use crate::arriving::{arrival, next_stream};
 use crate::crowd::Crowd;
 use crate::entrance::Entrance;
 use crate::faults::Faults;
 use crate::heartbeat::beat;
 use crate::operator::Operator;
+use crate::owner::tell_owner;
 use crate::patience::Patience;
 use crate::queue::{Arrivals, Queue, queue_of};
 use crate::settling::settle;
@@ -37,6 +38,8 @@ pub struct Numbers {
     pub clients: u64,
     /// The number of administrators' connections that are accepted, one after another.
     pub admins: u64,
+    /// The number of the owner's connections that are accepted, one after another.
+    pub owners: u64,
     pub patience: Patience,
     /// The slots of the journal.
     pub slots: u32,
@@ -45,13 +48,14 @@ pub struct Numbers {
 
 /// Accepts the connections of each kind, and returns when their sessions have ended. Clients' connections are served by
 /// a thread for each worker's account, one connection at a time each; administrators' by one more thread, one after
-/// another, all under `admin`. Seals that are due are made under `sealer`. The supervisor is notified when all threads
-/// run. If it wants a heartbeat, one more thread makes it, under `sealer`, too. Where the ringer has bells, a `take`
-/// waits for a delivery. All accounts are added to `gathered`, which is returned: its connections are parts of one
-/// lawful history, which begins with the one of the door's opening. Its chronicle also counts the connections that were
-/// turned away. The result is an error if a listener failed for good, a thread couldn't be started or an allocation
-/// failed; then the entrances are closed, and the connections that have begun are shut down if they haven't ended in
-/// time.
+/// another, all under `admin`. Each connection that comes to the entrance `owner`, if there is one, is told the state
+/// by one more thread, and ends. Seals that are due are made under `sealer`, and states are read under it. The
+/// supervisor is notified when all threads run. If it wants a heartbeat, one more thread makes it, under `sealer`, too.
+/// Where the ringer has bells, a `take` waits for a delivery. All accounts are added to `gathered`, which is returned:
+/// its connections are parts of one lawful history, which begins with the one of the door's opening. Its chronicle also
+/// counts the connections that were turned away. The result is an error if a listener failed for good, a thread
+/// couldn't be started or an allocation failed; then the entrances are closed, and the connections that have begun are
+/// shut down if they haven't ended in time.
 pub fn serve<
     J: Naming + Send + Sync,
     K: Chronicle + Send,
@@ -66,6 +70,7 @@ pub fn serve<
     host: &H,
     clients: &mut C,
     admins: A,
+    owner: Option<A>,
     door: &Door<J, G>,
     workers: Vec<Account<Seat<J>, K>>,
     admin: Account<Admin<J>, K>,
@@ -79,7 +84,7 @@ pub fn serve<
     let accounts = Accounts::new(workers, admin, gathered);
     let (turned_away, ended) = match Common::new(alloc, host, door, sealer, &numbers, ringer) {
         Ok((common, to)) => {
-            run_threads(rt, &common, &accounts, clients, admins, numbers, to);
+            run_threads(rt, &common, &accounts, clients, admins, owner, numbers, to);
             common.into_result()
         }
         Err(fault) => (0, Err(fault)),
@@ -170,10 +175,12 @@ fn run_threads<
     accounts: &Accounts<J, K>,
     clients: &mut C,
     admins: A,
+    owner: Option<A>,
     numbers: Numbers,
     to: Arrivals,
 ) {
     let number = numbers.admins;
+    let owners = numbers.owners;
     let faults = &common.faults;
     thread::scope(thread::scope_env(), rt, |scope| {
         for _ in 0..numbers.workers {
@@ -194,6 +201,13 @@ fn run_threads<
                 faults.note(rt, common.host, ServeFault::NoThread);
             }
         }
+        if let Some(entrance) = owner {
+            faults.live().begin_thread();
+            let started = scope.spawn(move || tell_owners(rt, common, entrance, owners));
+            if started.is_err() {
+                faults.miss_thread(rt, common.host);
+            }
+        }
         let crowd = Crowd::new(common.alloc, clients, numbers.workers, numbers.clients);
         admit(rt, crowd, &common.queue, to, common.host, faults);
         faults.end_connections(rt, common.patience.end);
@@ -211,6 +225,37 @@ fn work<J: Naming, K: Chronicle, G: Gate + Drop, H: Operator, R: Wait + Clock>(
         accounts.add(rt, common.door, account);
     }
     common.faults.live().end_thread();
+}
+
+/// Tells the state to each of this number of connections of the owner, one after another.
+fn tell_owners<J: Naming, G: Gate + Drop, A: Entrance + Drop, H: Operator, R: Wait + Clock>(
+    rt: &R,
+    common: &Common<'_, J, G, H>,
+    entrance: A,
+    number: u64,
+) {
+    let monitor = common.monitor();
+    let faults = &common.faults;
+    let mut entrance = entrance;
+    for _ in 0..number {
+        let Some(stream) = next_stream(rt, &mut entrance, common.host, faults) else {
+            break;
+        };
+        if faults.is_noted(rt) {
+            break;
+        }
+        tell_owner(
+            rt,
+            common.alloc,
+            common.door,
+            &common.sealer,
+            &common.queue,
+            common.patience,
+            &monitor,
+            &stream,
+        );
+    }
+    faults.live().end_thread();
 }
 
 /// Notifies the operator that the server answers, until the other threads have ended.
@@ -255,6 +300,7 @@ fn serve_clients<J: Naming, K: Chronicle, G: Gate + Drop, H: Operator, R: Wait +
             slot = at_rest(seat);
             continue;
         };
+        common.queue.begin_work();
         slot = guest.attend_client(
             rt,
             common.alloc,
@@ -267,6 +313,7 @@ fn serve_clients<J: Naming, K: Chronicle, G: Gate + Drop, H: Operator, R: Wait +
             &common.queue,
             &common.ringer,
         );
+        common.queue.end_work();
         live.leave(rt, number);
     }
     slot

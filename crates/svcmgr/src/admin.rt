@@ -32,10 +32,9 @@ pub fn administer<R: Net>(
     net: &R,
     administration: Administration<'_>,
 ) -> ExitCode {
-    let variable = match env::var(rt, VARIABLE) {
-        Ok(path) => Some(path),
-        Err(VarError::OutOfMemory) => return fail(rt, &Ending::Memory),
-        Err(_) => None,
+    let variable = match variable(rt, VARIABLE) {
+        Ok(variable) => variable,
+        Err(ending) => return fail(rt, &ending),
     };
     let given = variable.as_ref().map(|path| path.as_str());
     match administration.socket.or(given) {
@@ -45,6 +44,15 @@ pub fn administer<R: Net>(
             let _ = rt.stderr().write_all(NO_SOCKET);
             ExitCode::from(2)
         }
+    }
+}
+
+/// Returns the value of a variable of the environment, if it has one in UTF-8.
+pub(crate) fn variable(rt: &HostRuntime, name: &str) -> Result<Option<String>, Ending<'static>> {
+    match env::var(rt, name) {
+        Ok(value) => Ok(Some(value)),
+        Err(VarError::OutOfMemory) => Err(Ending::Memory),
+        Err(_) => Ok(None),
     }
 }
 
@@ -129,14 +137,20 @@ fn cut_off() -> io::Error {
 }
 
 /// Returns the error with words of its own where the time limit was exceeded.
-fn in_words(error: io::Error) -> io::Error {
+pub(crate) fn in_words(error: io::Error) -> io::Error {
     match error.kind() {
         ErrorKind::WouldBlock => io::Error::new(ErrorKind::TimedOut, "no answer for two minutes"),
         _ => error,
     }
 }
 
-fn answer_to<R: Net>(alloc: Global, net: &R, path: &str, request: &[u8]) -> io::Result<Vec<u8>> {
+/// Connects to a server, sends the request, and returns all that comes back.
+pub(crate) fn answer_to<R: Net>(
+    alloc: Global,
+    net: &R,
+    path: &str,
+    request: &[u8],
+) -> io::Result<Vec<u8>> {
     let stream = UnixStream::connect(net, path)?;
     stream.set_read_timeout(Some(Duration::from_secs(PATIENCE)))?;
     stream.set_write_timeout(Some(Duration::from_secs(PATIENCE)))?;

@@ -37,11 +37,13 @@ const MEMORY_SHORT: &[u8] = b"warning: memory is short: an allocation failed\n";
 
 const NO_LINE: &[u8] = b"warning: no memory for a line\n";
 
-/// The sockets of a server, and whether each was passed to it: those of clients, then those of administrators.
+/// The sockets of a server, and whether each was passed to it: those of clients, then those of administrators. The
+/// owner's socket, if there is one, never is.
 #[derive(Drop)]
 pub struct Entrances {
     pub clients: UnixListener,
     pub admins: UnixListener,
+    pub owner: Option<UnixListener>,
     pub are_passed: (bool, bool),
 }
 
@@ -62,6 +64,7 @@ pub struct Console<'a, R> {
     listening: String,
     clients: Closer,
     admins: Closer,
+    owner: Option<Closer>,
     log: ServerLog,
     form: LogForm,
     // Whether audit records are logged.
@@ -74,7 +77,7 @@ pub struct Console<'a, R> {
 
 impl<'a, R> Drop for Console<'a, R> {
     fn drop(self) {
-        drop_fields!(self: host, rt, listening, clients, admins, log, form, audits, heartbeat, connected);
+        drop_fields!(self: host, rt, listening, clients, admins, owner, log, form, audits, heartbeat, connected);
     }
 }
 
@@ -101,6 +104,7 @@ impl<'a, R: Wait> Console<'a, R> {
             )?,
             clients: closer_of(&entrances.clients, entrances.are_passed.0)?,
             admins: closer_of(&entrances.admins, entrances.are_passed.1)?,
+            owner: closer_of_owner(&entrances.owner)?,
             log,
             form,
             audits: sockets.audit,
@@ -176,6 +180,9 @@ impl<'a, R: Wait> Supervisor for Console<'a, R> {
     fn close_entrances(&self) {
         close(&self.clients);
         close(&self.admins);
+        if let Some(owner) = &self.owner {
+            close(owner);
+        }
     }
 }
 
@@ -219,6 +226,13 @@ fn closer_of(listener: &UnixListener, is_passed: bool) -> io::Result<Closer> {
     }
     let handle = UnixStream::from(OwnedFd::from(listener.try_clone()?));
     Ok(Closer::Handle(handle))
+}
+
+fn closer_of_owner(listener: &Option<UnixListener>) -> io::Result<Option<Closer>> {
+    match listener {
+        Some(listener) => Ok(Some(closer_of(listener, false)?)),
+        None => Ok(None),
+    }
 }
 
 // If it fails, no call waits: the socket is shut down already, or has connections for each call.

@@ -136,8 +136,8 @@ fn open_socket<'a, R: Files + Net>(
     }
 }
 
-/// Opens the clients' socket, then the administrators', and serves. Where it returns, the sockets and the locks that it
-/// made are gone. Those that were passed stay.
+/// Opens the clients' socket, then the other ones, and serves. Where it returns, the sockets and the locks that it made
+/// are gone. Those that were passed stay.
 fn listen<'a, J: Naming + Send + Sync, R: Files + Net + Threads + Wait + Clock + Sync>(
     host: &HostRuntime,
     rt: &R,
@@ -149,20 +149,41 @@ fn listen<'a, J: Naming + Send + Sync, R: Files + Net + Threads + Wait + Clock +
 ) -> Result<(), Ending<'a>> {
     let Passed { clients, admins } = passed;
     let (claim, clients) = open_socket(host, rt, sockets.clients, sockets.mode, clients)?;
-    let mode = Some(OWNER_ALONE);
-    let ended = match open_socket(host, rt, sockets.admins, mode, admins) {
+    let is_passed = claim.is_none();
+    let ended = match open_socket(host, rt, sockets.admins, Some(OWNER_ALONE), admins) {
         Ok((other, admins)) => {
             let entrances = Entrances {
                 clients,
                 admins,
-                are_passed: (claim.is_none(), other.is_none()),
+                owner: None,
+                are_passed: (is_passed, other.is_none()),
             };
-            let ended = serve_at(host, rt, door, tokens, slots, sockets, entrances);
+            let ended = listen_for_owner(host, rt, door, tokens, slots, sockets, entrances);
             remove(rt, other);
             ended
         }
         Err(ending) => Err(ending),
     };
+    remove(rt, claim);
+    ended
+}
+
+/// Opens the owner's socket, if there is to be one, and serves.
+fn listen_for_owner<'a, J: Naming + Send + Sync, R: Files + Net + Threads + Wait + Clock + Sync>(
+    host: &HostRuntime,
+    rt: &R,
+    door: &Door<J, Ringer>,
+    tokens: Tokens<J>,
+    slots: u32,
+    sockets: Sockets<'a>,
+    mut entrances: Entrances,
+) -> Result<(), Ending<'a>> {
+    let Some(path) = sockets.status else {
+        return serve_at(host, rt, door, tokens, slots, sockets, entrances);
+    };
+    let (claim, listener) = open_socket(host, rt, path, Some(OWNER_ALONE), None)?;
+    entrances.owner = Some(listener);
+    let ended = serve_at(host, rt, door, tokens, slots, sockets, entrances);
     remove(rt, claim);
     ended
 }
@@ -204,6 +225,7 @@ fn numbers_of(slots: u32, sockets: &Sockets) -> Numbers {
         workers: sockets.workers,
         clients: u64::MAX,
         admins: u64::MAX,
+        owners: u64::MAX,
         patience: PATIENCE,
         slots,
         seal_at: SealAt {
@@ -226,6 +248,7 @@ fn serve_under<'a, J: Naming + Send + Sync, R: Threads + Wait + Clock + Sync>(
     let Entrances {
         mut clients,
         admins,
+        owner,
         are_passed: _,
     } = entrances;
     let Tokens {
@@ -243,6 +266,7 @@ fn serve_under<'a, J: Naming + Send + Sync, R: Threads + Wait + Clock + Sync>(
         console,
         &mut clients,
         admins,
+        owner,
         door,
         workers,
         admin,

@@ -13,6 +13,7 @@ mod settings;
 mod sockets;
 mod standard_error;
 mod standard_streams;
+mod status;
 mod systemd;
 mod waking;
 
@@ -32,6 +33,7 @@ use sm_script::{ScriptFault, run_script};
 use sm_serve::Level;
 use standard_error::StandardError;
 use standard_streams::StandardStreams;
+use status::print_status;
 use std::io::{self, Write};
 use std::mem;
 use std::process::ExitCode;
@@ -62,6 +64,7 @@ fn answer<R: Files + Net + Threads + Wait + Clock + Sync>(
             Err(ending) => fail(host, &ending),
         },
         Ok(Invocation::Administer(administration)) => administer(host, rt, administration),
+        Ok(Invocation::Status(socket)) => print_status(host, rt, socket),
         Err(error) => misuse(host, &error),
     }
 }

@@ -1,4 +1,4 @@
-//! A door: sessions, changes, reads, installs, denials, seals and audit records.
+//! A door: sessions, changes, reads, installs, denials, states, seals and audit records.
 
 ghost use Rattle.std.specs.Prelude.{◌≡◌};
 ghost use Rattle.sm_core.specs.Opening.{opened};
@@ -10,6 +10,7 @@ use sm_door::{Admin, Door, Naming, Seat, Session, UnnamedRegistry};
 use sm_history::{Event, NoGate, Outcome, Record, Refusal, Reply};
 use sm_policy::Prepared;
 use sm_samples::DEVICE_RULES;
+use sm_status::push_status;
 use sm_values::{Identity, Name, Places, drop_fields};
 use std::alloc::Global;
 use std::marker::Brand;
@@ -171,6 +172,17 @@ impl<'a, J: Naming, R: Wait + Abort> Caller<'a, J, R> {
         Some(())
     }
 
+    /// The state has a line for its counts, the client, the service and the watch. `None` if an allocation failed.
+    fn tells_state(&self, me: &mut Admin<J>) -> Option<()> {
+        let status = self.door.status(self.rt, me).ok()?;
+        let mut text = Vec::new(self.alloc);
+        push_status(self.alloc, &mut text, &status).ok()?;
+        assert!(self.rt; text.starts_with(b"state "));
+        assert!(self.rt; text.ends_with(b"\nwatch power 1 o7\n"));
+        assert!(self.rt; text.iter().filter(|byte| **byte == b'\n').count() == 4);
+        Some(())
+    }
+
     /// The calls of an administrator.
     fn administrator(&self, me: &mut Admin<J>) -> Option<()> {
         self.installs(me)?;
@@ -187,6 +199,7 @@ impl<'a, J: Naming, R: Wait + Abort> Caller<'a, J, R> {
         self.administrator(admin)?;
         again!(self.rt; self.watches(me));
         again!(self.rt; self.has_denials(admin, 1));
+        again!(self.rt; self.tells_state(admin));
         Some(())
     }
 

@@ -23,6 +23,7 @@ fn words(alloc: Global, line: &str) -> Result<Vec<String>, AllocError> {
 const SOCKETS: Sockets = Sockets {
     clients: "s",
     admins: "a",
+    status: None,
     workers: 16,
     mode: None,
     seal_at: Some(524_288),
@@ -103,6 +104,14 @@ const ACCEPTED: &[(&str, Mode, u32)] = &[
             ..SOCKETS
         }),
         100,
+    ),
+    (
+        "svcmgr serve --status p --socket s --admin a r c",
+        Mode::Serve(Sockets {
+            status: Some("p"),
+            ..SOCKETS
+        }),
+        1_048_576,
     ),
     (
         "svcmgr serve --seal-bytes 5000 --socket s --admin a r c",
@@ -206,7 +215,7 @@ fn accepts(
             options.mode,
             (options.places.entries(), options.rules, options.contexts),
         )),
-        Invocation::Administer(_) => None,
+        _ => None,
     };
     let (found, rest) = found.expect(rt, line);
     assert!(rt; found == mode);
@@ -256,7 +265,7 @@ fn asks(rt: &impl Abort, alloc: Global, line: &str, wanted: &Administration) -> 
     let words = words(alloc, line)?;
     let asked = match invocation_of(alloc, &words)? {
         Invocation::Administer(administration) => Some(administration),
-        Invocation::Policy(_) => None,
+        _ => None,
     };
     assert!(rt; asked.expect(rt, line) == *wanted);
     Ok(())
@@ -270,6 +279,25 @@ fn requests_to_a_server(rt: HostRuntime) -> Result<(), Fail> {
             request: *request,
         };
         asks(&rt, rt.alloc(), line, &wanted)?;
+    }
+    Ok(())
+}
+
+// Command lines that ask for the state, with the socket that they name.
+const STATES: &[(&str, Option<&str>)] = &[
+    ("svcmgr status", None),
+    ("svcmgr status --status p", Some("p")),
+];
+
+#[test]
+fn states_of_a_server(rt: HostRuntime) -> Result<(), Fail> {
+    for (line, socket) in STATES {
+        let words = words(rt.alloc(), line)?;
+        let asked = match invocation_of(rt.alloc(), &words)? {
+            Invocation::Status(asked) => Some(asked),
+            _ => None,
+        };
+        assert!(rt; asked.expect(&rt, line) == *socket);
     }
     Ok(())
 }
@@ -303,6 +331,7 @@ const REFUSED: &[(ErrorKind, &[&str])] = &[
         &[
             "svcmgr run r c s",
             "svcmgr check --journal 2 r c",
+            "svcmgr status r",
             "svcmgr run --workers 2 r c",
             "svcmgr access --kind allow r c",
             "svcmgr suggest r c log",
@@ -318,6 +347,10 @@ const REFUSED: &[(ErrorKind, &[&str])] = &[
             "svcmgr serve --socket  --admin a r c",
             "svcmgr serve --socket s --admin  r c",
             "svcmgr serve --socket s --admin s r c",
+            "svcmgr serve --status  --socket s --admin a r c",
+            "svcmgr serve --status s --socket s --admin a r c",
+            "svcmgr serve --status a --socket s --admin a r c",
+            "svcmgr status --status ",
             "svcmgr serve --seal-at 1 --socket s --admin a r c",
             "svcmgr serve --journal 9 --seal-at 5 --socket s --admin a r c",
             "svcmgr serve --seal-at 524289 --socket s --admin a r c",

@@ -231,6 +231,7 @@ pub fn numbers(workers: u32, clients: u64, admins: u64) -> Numbers {
         workers,
         clients,
         admins,
+        owners: 0,
         patience: PATIENCE,
         slots: 0,
         seal_at: SealAt {
@@ -393,6 +394,7 @@ fn serves<
         &ear,
         &mut clients,
         admins,
+        None,
         &door,
         workers,
         admin,
