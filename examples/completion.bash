@@ -14,7 +14,7 @@ _svcmgr() {
         names) options="--source --perm --help" ;;
         suggest) options="--help" ;;
         unused) options="--help" ;;
-        diff) options="--help" ;;
+        diff) options="--rules --help" ;;
         admin) options="--admin --help" ;;
         status) options="--status --help" ;;
     esac

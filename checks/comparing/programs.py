@@ -44,7 +44,7 @@ def command_of(question):
     elif command == "names":
         options, words = ["--source", words[0], *(["--perm", words[1]] if words[1] is not None else [])], []
     elif command == "diff":
-        files = FILES
+        options, words, files = ["--rules"] if words[0] else [], [], FILES
     elif command == "suggest":
         words = []
     return [command, *options, *files, *words]

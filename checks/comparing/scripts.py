@@ -246,7 +246,7 @@ class Drawing(PolicyDrawing):
         if kind < 0.86:
             words = self.one([*TYPES, "domain", "unknown"]), self.one([*PERMS_OF["service_manager"], "call", "unknown"])
             return ("names", words[0], words[1] if self.is_so(0.7) else None)
-        return ("diff",) if kind < 0.9 else ("suggest", self.log())
+        return ("diff", self.is_so(0.5)) if kind < 0.92 else ("suggest", self.log())
 
     # Logs.
 

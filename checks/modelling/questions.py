@@ -294,12 +294,27 @@ def read_named(rules, contexts, kind, paths):
         raise
 
 
+def granting_rules(first, second, path, text):
+    """The rules that are the first to grant what only the first policy allows, each behind its count."""
+    counts, every = {}, text.split("\n")
+    for each in only_first(first, second):
+        line = first.line_of(*each)
+        counts[line] = counts.get(line, 0) + 1
+    without = counts.pop(None, 0)
+    found = [f"{counts[line]} {path}:{line}: {statement(every[line - 1 :])}" for line in sorted(counts)]
+    return found + [f"{without} permissive"] * (without > 0)
+
+
 @asked
-def diff(kind, rules, contexts, new_rules, new_contexts, paths):
+def diff(kind, rules, contexts, new_rules, new_contexts, paths, by_rules=False):
     old = read_named(rules, contexts, kind, paths[:2])
     new = read_named(new_rules, new_contexts, kind, paths[2:])
-    found = [f"- {' '.join(each)}" for each in only_first(old, new)]
-    found += [f"+ {' '.join(each)}" for each in only_first(new, old)]
+    if by_rules:
+        found = [f"- {each}" for each in granting_rules(old, new, paths[0], rules)]
+        found += [f"+ {each}" for each in granting_rules(new, old, paths[2], new_rules)]
+    else:
+        found = [f"- {' '.join(each)}" for each in only_first(old, new)]
+        found += [f"+ {' '.join(each)}" for each in only_first(new, old)]
     for key in old.keys() + [key for key in new.keys() if key not in old.keys()]:
         if old.label(key) != new.label(key):
             found.append(f"~ {key} {old.label(key)} {new.label(key)}")

@@ -172,6 +172,7 @@ COMPLETED = [
     ("svcmgr suggest --h", "--help"),
     ("svcmgr suggest ", "labels rules"),
     ("svcmgr diff rules labels n", ""),
+    ("svcmgr diff --r", "--rules"),
     ("svcmgr-doorkeeper --re", "--relay"),
     ("svcmgr-doorkeeper --relay --mo", "--mode"),
     ("svcmgr-doorkeeper --socket ", "labels rules"),
@@ -299,6 +300,7 @@ FAULTS = {
     "suggest rules labels": ASKED[:-1],
     "unused rules labels": ASKED[:-1],
     "diff rules labels new newlabels": [[UNKNOWN_OPTION], *OLD, *NEW],
+    "diff --rules rules labels new newlabels": [[UNKNOWN_OPTION], *OLD, *NEW],
 }
 
 
@@ -432,6 +434,7 @@ QUESTIONS = [
         "attribute declared:36: nobody\ntype declared:37: nothing\nkey keys:4: %613a62\n",
     ),
     ("diff rules labels rules labels", 0, ""),
+    ("diff --rules rules labels rules labels", 0, ""),
     (
         "diff rules labels new newlabels",
         1,
@@ -476,6 +479,7 @@ UNANSWERED = [
     ("suggest rules nowhere", "", NOWHERE),
     ("unused rules nowhere", "", NOWHERE),
     ("diff rules labels nowhere labels", "", NOWHERE),
+    ("diff --rules rules labels nowhere labels", "", NOWHERE),
     ("label refused labels foo", UNKNOWN_NAME, ""),
     ("explain refused labels untrusted_app activity_service service_manager find", UNKNOWN_NAME, ""),
     ("access refused labels", UNKNOWN_NAME, ""),
@@ -593,6 +597,7 @@ def unread_answers(program):
         ("unused needless labels", 1),
         ("explain rules labels untrusted_app activity_service service_manager find", 1),
         ("diff rules labels new newlabels", 1),
+        ("diff --rules rules labels new newlabels", 1),
         ("label refused labels activity", 2),
         ("check --all --show refused labels", 1),
     ]

@@ -25,6 +25,7 @@ PAGES = {
         "sm_suggestions::suggesting::suggest",
         "sm_unused::listing::unused",
         "sm_questions::comparing::diff",
+        "sm_questions::rule_diff::diff_rules",
     ],
     "run_script": ["sm_script::running::run_script"],
     "serve": ["sm_serve::serving::serve"],

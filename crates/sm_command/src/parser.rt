@@ -129,19 +129,22 @@ fn unused<'a>(alloc: Global) -> Building<'a> {
 
 fn diff<'a>(alloc: Global) -> Building<'a> {
     let about = "Lists what differs between two policies";
-    with_files(alloc, Building::new(alloc, "diff", about))
-        .arg(operand(
-            alloc,
-            "new-rules",
-            "NEWRULES",
-            "A second file of SELinux rules",
-        ))
-        .arg(operand(
-            alloc,
-            "new-contexts",
-            "NEWCONTEXTS",
-            "A second file of service contexts",
-        ))
+    with_files(
+        alloc,
+        Building::new(alloc, "diff", about).arg(by_rules(alloc)),
+    )
+    .arg(operand(
+        alloc,
+        "new-rules",
+        "NEWRULES",
+        "A second file of SELinux rules",
+    ))
+    .arg(operand(
+        alloc,
+        "new-contexts",
+        "NEWCONTEXTS",
+        "A second file of service contexts",
+    ))
 }
 
 fn admin<'a>(alloc: Global) -> Building<'a> {
@@ -219,6 +222,13 @@ fn by_name<'a>(alloc: Global) -> Arg<'a> {
     Arg::new(alloc, "name")
         .long("name")
         .help("Takes TARGET as the name of a service")
+        .action(ArgAction::SetTrue)
+}
+
+fn by_rules<'a>(alloc: Global) -> Arg<'a> {
+    Arg::new(alloc, "by-rules")
+        .long("rules")
+        .help("Lists the rules that grant what differs in place of the accesses")
         .action(ArgAction::SetTrue)
 }
 

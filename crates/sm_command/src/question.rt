@@ -15,8 +15,12 @@ pub enum Question<'a> {
     Types(Option<&'a str>),
     /// `svcmgr names --source TYPE [--perm PERM] RULES CONTEXTS`
     Names(NameWords<'a>),
-    /// `svcmgr diff RULES CONTEXTS NEWRULES NEWCONTEXTS`
-    Diff(NewFiles<'a>),
+    /// `svcmgr diff [--rules] RULES CONTEXTS NEWRULES NEWCONTEXTS`
+    Diff {
+        files: NewFiles<'a>,
+        /// Whether rules are listed in place of accesses.
+        by_rules: bool,
+    },
 }
 
 /// The target of an access.
@@ -76,7 +80,10 @@ pub fn question_of<'a>(name: &str, matches: &ArgMatches<'a>) -> Option<Question<
         "access" => Some(Question::Access(filter_of(matches))),
         "types" => Some(Question::Types(matches.get_str("of"))),
         "names" => Some(Question::Names(name_words_of(matches)?)),
-        "diff" => Some(Question::Diff(new_files_of(matches)?)),
+        "diff" => Some(Question::Diff {
+            files: new_files_of(matches)?,
+            by_rules: matches.get_flag("by-rules"),
+        }),
         _ => None,
     }
 }

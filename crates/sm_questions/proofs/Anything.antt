@@ -1,7 +1,7 @@
 -- Whether there are any lines.
 use Rattle.std.proofs.Common.{◌≡◌, ℕ, ◌+◌, ◌<◌, ◌≤◌, Bool, List, [], ◌∷◌, ◌++◌, length, take, get_or, nat_lt, refl}
 use Rattle.std.proofs.Common.{arith}
-use Rattle.std.specs.Prelude.{◌||◌}
+use Rattle.std.specs.Prelude.{◌||◌, not}
 use Rattle.std.specs.List.{flat_map}
 use Rattle.std.proofs.lemmas.List.{take_all}
 use Rattle.std.proofs.lemmas.Bool.Decides.{nat_tests}
@@ -28,3 +28,10 @@ any_held {next} held lines e = grind (arith, common_steps, e)
 pub any_list : {A : Type 0} (f : A → List ℕ) (xs : List A) (i : ℕ) {any : Bool} → length xs ≤ i
     → any ≡ is_any (flat_map f (take i xs)) → any ≡ is_any (flat_map f xs)
 any_list f xs i {any} le p = rw (take_all i xs le) at p
+
+-- There are no lines in three texts.
+pub none_of_three : (lines more last : List ℕ) {any_lines any_more any_last both all : Bool}
+    → any_lines ≡ is_any lines → any_more ≡ is_any more → any_last ≡ is_any last
+    → both ≡ (any_lines || any_more) → all ≡ (both || any_last) → not all ≡ not (is_any (lines ++ more ++ last))
+none_of_three lines more last {any_lines} {any_more} {any_last} {both} {all} p q r e f =
+    rw (any_both (lines ++ more) last, any_both lines more, ← p, ← q, ← r, ← e, ← f) refl

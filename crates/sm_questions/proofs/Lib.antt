@@ -16,3 +16,6 @@ pub mod Sources
 pub mod SingleAccess
 pub mod Steps
 pub mod Verdicts
+pub mod Tallied
+pub mod Changes
+pub mod Counts

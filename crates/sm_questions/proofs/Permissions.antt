@@ -4,7 +4,7 @@ use Rattle.std.specs.List.{flat_map}
 use Rattle.sm_questions.specs.Accesses.{perm_numbers}
 use Rattle.sm_questions.proofs.Buffering.{held_step}
 
-number_there : (b : ℕ) → b < 7 → get_or perm_numbers b 0 ≡ b
+pub number_there : (b : ℕ) → b < 7 → get_or perm_numbers b 0 ≡ b
 number_there b lt = grind arith
 
 pub held_perm : {held next : List ℕ} (f : ℕ → List ℕ) (b : ℕ) (first : List ℕ) → b < 7

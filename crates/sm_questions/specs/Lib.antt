@@ -15,9 +15,11 @@ pub mod LineStarts
 pub mod OneLine
 pub mod Parts
 pub mod Relabelled
+pub mod RuleChanges
 pub mod RuleFilters
 pub mod RuleLaws
 pub mod RuleLines
 pub mod Shown
+pub mod Tallies
 pub mod TypeNumbers
 pub mod Words

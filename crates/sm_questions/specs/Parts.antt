@@ -37,6 +37,10 @@ part_lines old new part = flat_map (lines_of part old new) (names_in part old ne
 abbrev pub all_parts : List Part
 all_parts = Lost ∷ Gained ∷ Relabelled ∷ Added ∷ Ceased ∷ Became ∷ []
 
+-- These are the parts that compare no accesses.
+abbrev pub other_parts : List Part
+other_parts = Relabelled ∷ Added ∷ Ceased ∷ Became ∷ []
+
 -- A part that compares accesses has the numbers in the other policy of the types that it goes through.
 abbrev pub AreNumbers : Part → Policy → Policy → TypeNumbers → Type 0
 AreNumbers Lost old new numbers = AreNumbersIn old new numbers

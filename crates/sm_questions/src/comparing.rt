@@ -27,7 +27,7 @@ const PARTS: [Part; 6] = [
 
 /// Writes the lines of a part, and holds the last ones. Returns whether there are any.
 #[tactic(auto, unfolding(crate::specs::Parts::part_lines))]
-fn put_part<W: Write>(
+pub fn put_part<W: Write>(
     alloc: Global,
     part: Part,
     old: &Prepared,

@@ -3,6 +3,7 @@
 #![tactic(auto)]
 
 mod buffer;
+mod change_laws;
 mod checking;
 mod comparing;
 mod explaining;
@@ -21,17 +22,21 @@ mod part;
 mod passed;
 mod quotes;
 mod relabelling;
+mod rule_changes;
+mod rule_diff;
 mod rule_filter;
 mod rule_laws;
 mod rule_listing;
 mod showing;
 mod showing_all;
+mod tallying;
 #[cfg(test)]
 mod tests;
 mod type_numbers;
 mod unknown;
 
 pub use buffer::write_full;
+pub use change_laws::counts_add_up;
 pub use checking::{Verdict, check, judge, refused_line};
 pub use comparing::diff;
 pub use explaining::explain;
@@ -41,6 +46,8 @@ pub use labelling::label;
 pub use listing::access;
 pub use lookups::byte_at;
 pub use quotes::Quotes;
+pub use rule_changes::RulesFile;
+pub use rule_diff::diff_rules;
 pub use rule_filter::{RuleFilter, RuleOptions, read_rule_filter};
 pub use rule_laws::{first_is_explained, words_leave_one};
 pub use rule_listing::rules;

@@ -21,7 +21,7 @@ use std::alloc::{AllocError, Global};
 
 /// Returns whether only the first policy allows an access of two of its types.
 #[tactic(auto, unfolding(crate::specs::Differences::is_lost))]
-fn is_lost(
+pub fn is_lost(
     one: &Prepared,
     other: &Prepared,
     numbers: &[Option<u16>],
@@ -85,7 +85,11 @@ fn push_pair(
 }
 
 /// Returns the permissions of a source of the other policy, or nothing if it isn't declared there.
-fn row_there(alloc: Global, other: &Prepared, source: Option<u16>) -> Result<Vec<u8>, AllocError>
+pub fn row_there(
+    alloc: Global,
+    other: &Prepared,
+    source: Option<u16>,
+) -> Result<Vec<u8>, AllocError>
     requires { IfSome source (λ s. s < length (types other.now.statements)) }
     ensures { IfOk result (λ row. IsRowThere other.now row.items source) }
 {
@@ -98,7 +102,7 @@ fn row_there(alloc: Global, other: &Prepared, source: Option<u16>) -> Result<Vec
 /// Returns whether a source loses nothing on a type: it has no permission on it, or has the same in the other policy,
 /// where the type has this number.
 #[inline]
-fn is_kept(here: &[u8], there: &[u8], target: u16, number: Option<u16>) -> bool
+pub fn is_kept(here: &[u8], there: &[u8], target: u16, number: Option<u16>) -> bool
     ensures { result ≡ granted.is_kept (get_or here.now target 0) (byte_for there.now number) }
 {
     let byte = byte_at(here, target);
@@ -107,7 +111,7 @@ fn is_kept(here: &[u8], there: &[u8], target: u16, number: Option<u16>) -> bool
 
 /// Returns the end of the types, from the first one on, on which the rows of both policies show that a source loses
 /// nothing. 0 if they don't show it.
-fn kept_end(one: &Prepared, other: &Prepared, numbers: &TypeNumbers, source: u16) -> u16
+pub fn kept_end(one: &Prepared, other: &Prepared, numbers: &TypeNumbers, source: u16) -> u16
     requires source { source < length (types one.now.statements) }
     requires numbers { AreNumbersIn one.now other.now numbers.now }
     ensures within { result ≤ length (types one.now.statements) }

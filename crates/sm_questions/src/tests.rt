@@ -4,8 +4,8 @@ ghost use Rattle.std.specs.Prelude.{◌≡◌, Ok};
 ghost use Rattle.sm_policy.specs.Preparing.{rules_of};
 
 use crate::{
-    FilterOptions, RuleOptions, Target, access, diff, explain, label, read_access, read_filter,
-    read_rule_filter, rules, shown_lines, unknown_text,
+    FilterOptions, RuleOptions, RulesFile, Target, access, diff, diff_rules, explain, label,
+    read_access, read_filter, read_rule_filter, rules, shown_lines, unknown_text,
 };
 use sm_engine::Counted;
 use sm_policy::Prepared;
@@ -535,4 +535,85 @@ fn unknown_words_of_rules(rt: HostRuntime) {
     assert!(rt; refuses(&rt, rt.alloc(), &kind, b"unknown kind auditallow"));
     let source = [b"allow".as_slice(), b"nobody", b"", b"", b""];
     assert!(rt; refuses(&rt, rt.alloc(), &source, b"unknown type nobody"));
+}
+
+const SHARED_LINES: &[u8] = b"attribute domain;
+type app, domain; type init, domain; type svc;
+# Rules.
+allow domain svc:service_manager { find list }; allow app app:binder call;
+allow app svc:service_manager
+    { find add };
+allow app svc:binder call; allow app svc:binder { call transfer };
+permissive init;
+";
+
+const FEWER_RULES: &[u8] = b"type svc; type app;
+allow app svc:{ binder service_manager } { find call };
+allow svc self:binder call;
+";
+
+/// Two policy sources, and the lines for the rules that differ.
+const RULES_COMPARED: &[([&[u8]; 2], &[u8])] = &[
+    ([RULES, RULES], b""),
+    (
+        [SHARED_LINES, FEWER_RULES],
+        b"- 4 a.te:4: allow domain svc:service_manager { find list }; allow app app:binder call;
+- 1 a.te:5: allow app svc:service_manager { find add };
+- 1 a.te:7: allow app svc:binder call; allow app svc:binder { call transfer };
+- 19 permissive
++ 1 b.te:3: allow svc self:binder call;
+- permissive init
+",
+    ),
+    (
+        [FEWER_RULES, SHARED_LINES],
+        b"- 1 a.te:3: allow svc self:binder call;
++ 4 b.te:4: allow domain svc:service_manager { find list }; allow app app:binder call;
++ 1 b.te:5: allow app svc:service_manager { find add };
++ 1 b.te:7: allow app svc:binder call; allow app svc:binder { call transfer };
++ 19 permissive
++ permissive init
+",
+    ),
+    (
+        [TEN_TYPES, SIX_TYPES],
+        b"- 1 a.te:3: allow init app:binder call;
+- 1 a.te:4: allow app { cam log }:binder call;
+- 1 a.te:5: allow cam log:binder call;
+- 1 a.te:6: allow drm drm:binder call;
+- 1 a.te:7: allow nfc app:binder call;
+- 1 a.te:8: allow sys app:service_manager { find list };
+- 1 a.te:9: allow vold { sys zygote }:binder transfer;
++ 1 b.te:3: allow cam nfc:binder call;
++ 1 b.te:4: allow drm cam:binder call;
++ 1 b.te:5: allow nfc cam:binder call;
++ 1 b.te:6: allow sys app:service_manager { add find };
+",
+    ),
+];
+
+/// Returns whether the rules of two policies differ so.
+fn rules_differ(rt: &impl Abort, alloc: Global, sources: [&[u8]; 2], lines: &[u8]) -> bool {
+    let old = tables(rt, alloc, sources[0], ONE_KEY);
+    let new = tables(rt, alloc, sources[1], ONE_KEY);
+    let old_file = RulesFile {
+        path: b"a.te",
+        text: sources[0],
+    };
+    let new_file = RulesFile {
+        path: b"b.te",
+        text: sources[1],
+    };
+    let mut writer = Counted::new(Vec::new(alloc));
+    let same = diff_rules(alloc, &old, &old_file, &new, &new_file, &mut writer)
+        .ok()
+        .expect(rt, "an answer");
+    writer.into_inner().as_slice() == lines && same == lines.is_empty()
+}
+
+#[test]
+fn rules_are_compared(rt: HostRuntime) {
+    for (sources, lines) in RULES_COMPARED {
+        assert!(rt; rules_differ(&rt, rt.alloc(), *sources, lines));
+    }
 }

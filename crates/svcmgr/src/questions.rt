@@ -13,8 +13,8 @@ use sm_engine::{Counted, Fault, write_whole};
 use sm_listings::{knows, names, types};
 use sm_policy::{PolicyFault, Prepared};
 use sm_questions::{
-    FilterOptions, RuleOptions, Target, Unknown, access, diff, explain, label, read_access,
-    read_filter, read_rule_filter, refused_line, rules,
+    FilterOptions, RuleOptions, RulesFile, Target, Unknown, access, diff, diff_rules, explain,
+    label, read_access, read_filter, read_rule_filter, refused_line, rules,
 };
 use sm_suggestions::{MOST_LOG_BYTES, suggest};
 use sm_unused::unused;
@@ -65,10 +65,17 @@ fn try_ask<'a>(
     options: &Options<'a>,
     question: Question<'a>,
 ) -> Result<ExitCode, Ending<'a>> {
+    if let Question::Diff {
+        files,
+        by_rules: true,
+    } = question
+    {
+        return tell_rule_differences(rt, options, files);
+    }
     match read_policy(rt, options.rules, options.contexts)? {
         Some(policy) => answer(rt, &policy, question),
         None => match question {
-            Question::Diff(_) => Err(refused(options.rules, options.contexts)),
+            Question::Diff { .. } => Err(refused(options.rules, options.contexts)),
             _ => Ok(ExitCode::from(NO_ANSWER)),
         },
     }
@@ -143,7 +150,7 @@ fn answer<'a>(
         Question::Access(words) => tell_accesses(rt, policy, words),
         Question::Types(name) => tell_types(rt, policy, name),
         Question::Names(words) => tell_names(rt, policy, words),
-        Question::Diff(files) => tell_differences(rt, policy, files),
+        Question::Diff { files, .. } => tell_differences(rt, policy, files),
     }
 }
 
@@ -376,5 +383,43 @@ fn tell_differences<'a>(
 fn compare<'a>(rt: &HostRuntime, old: &Prepared, new: &Prepared) -> Result<ExitCode, Ending<'a>> {
     let mut writer = Counted::new(Pipe::new(rt.stdout()));
     let ended = diff(rt.alloc(), old, new, &mut writer);
+    decided(ended, writer.into_inner().is_closed())
+}
+
+/// Reads a policy and its source. Prints the refusal, if it is refused.
+fn read_named<'a>(
+    rt: &HostRuntime,
+    rules: &'a str,
+    contexts: &'a str,
+) -> Result<(Prepared, Vec<u8>), Ending<'a>> {
+    let source = text_of(rt, rules)?;
+    let labels = text_of(rt, contexts)?;
+    match Prepared::from_texts(rt.alloc(), &source, &labels) {
+        Ok(policy) => Ok((policy, source)),
+        Err(fault) => {
+            refuse(rt, &fault)?;
+            Err(refused(rules, contexts))
+        }
+    }
+}
+
+/// Reads two policies, and lists the rules that grant what differs between them.
+fn tell_rule_differences<'a>(
+    rt: &HostRuntime,
+    options: &Options<'a>,
+    files: NewFiles<'a>,
+) -> Result<ExitCode, Ending<'a>> {
+    let (old, old_source) = read_named(rt, options.rules, options.contexts)?;
+    let (new, new_source) = read_named(rt, files.rules, files.contexts)?;
+    let old_file = RulesFile {
+        path: options.rules.as_bytes(),
+        text: &old_source,
+    };
+    let new_file = RulesFile {
+        path: files.rules.as_bytes(),
+        text: &new_source,
+    };
+    let mut writer = Counted::new(Pipe::new(rt.stdout()));
+    let ended = diff_rules(rt.alloc(), &old, &old_file, &new, &new_file, &mut writer);
     decided(ended, writer.into_inner().is_closed())
 }

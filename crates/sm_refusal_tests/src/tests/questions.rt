@@ -6,8 +6,9 @@ use sm_engine::{Counted, Fault};
 use sm_listings::{names, types};
 use sm_policy::{PolicyFault, Prepared};
 use sm_questions::{
-    FilterOptions, RuleOptions, Target, Unknown, access, all_shown_lines, check_all, diff, explain,
-    label, read_filter, read_rule_filter, rules, shown_lines, unknown_text,
+    FilterOptions, RuleOptions, RulesFile, Target, Unknown, access, all_shown_lines, check_all,
+    diff, diff_rules, explain, label, read_filter, read_rule_filter, rules, shown_lines,
+    unknown_text,
 };
 use sm_ruletext::RuleTextFault;
 use sm_samples::{BROKEN_RULE, DEVICE_LABELS, DEVICE_RULES, device_rules_with, stricter_rules};
@@ -178,6 +179,18 @@ fn compares(rt: &impl Abort, alloc: Global, old: &Prepared, new: &Prepared) -> O
     wrote(rt, fault, writer, line)
 }
 
+/// Compares the rules of two policies, of which only the first one grants more.
+fn compares_rules(rt: &impl Abort, alloc: Global, old: &Prepared, new: &Prepared) -> Option<()> {
+    let file = RulesFile {
+        path: b"t.te",
+        text: DEVICE_RULES,
+    };
+    let mut writer = Counted::new(Vec::new(alloc));
+    let fault = diff_rules(alloc, old, &file, new, &file, &mut writer).err();
+    let line = b"- 1 t.te:13: allow binderuser activity_service:service_manager find;\n";
+    wrote(rt, fault, writer, line)
+}
+
 fn names_a_word(rt: &impl Abort, alloc: Global) -> Option<()> {
     let unknown = Unknown::Type(Word::new(b"nobody"));
     let text = unknown_text(alloc, &unknown).ok()?;
@@ -234,6 +247,7 @@ fn answers(rt: &impl Abort, alloc: Global, old: &Prepared, new: &Prepared) {
     again!(rt; lists_names(rt, alloc));
     again!(rt; lists_unused(rt, alloc));
     again!(rt; compares(rt, alloc, old, new));
+    again!(rt; compares_rules(rt, alloc, old, new));
     again!(rt; names_a_word(rt, alloc));
     again!(rt; shows_a_line(rt, alloc));
     again!(rt; shows_a_statement(rt, alloc));

@@ -2,8 +2,8 @@
 
 use clap::error::ErrorKind;
 use sm_command::{
-    AccessWords, AdminRequest, Administration, Ending, FilterWords, Invocation, Mode, NewFiles,
-    Question, RuleFilterWords, RuleWords, Sockets, TargetWord, invocation_of, words_of,
+    AccessWords, AdminRequest, Administration, Ending, FilterWords, Invocation, Mode, NameWords,
+    NewFiles, Question, RuleFilterWords, RuleWords, Sockets, TargetWord, invocation_of, words_of,
 };
 use std::alloc::{AllocError, Global};
 use std::env::{Env, FillError};
@@ -31,6 +31,11 @@ const SOCKETS: Sockets = Sockets {
     audit: false,
     audit_rate: 0,
     take_wait: 0,
+};
+
+const OTHER_FILES: NewFiles = NewFiles {
+    rules: "s",
+    contexts: "d",
 };
 
 const ANY_ACCESS: FilterWords = FilterWords {
@@ -193,11 +198,35 @@ const ACCEPTED: &[(&str, Mode, u32)] = &[
     ("svcmgr suggest r c", Mode::Suggest, 1_048_576),
     ("svcmgr unused r c", Mode::Unused, 1_048_576),
     (
-        "svcmgr diff r c s d",
-        Mode::Ask(Question::Diff(NewFiles {
-            rules: "s",
-            contexts: "d",
+        "svcmgr names --source app r c",
+        Mode::Ask(Question::Names(NameWords {
+            source: "app",
+            perm: "find",
         })),
+        1_048_576,
+    ),
+    (
+        "svcmgr names r --perm add c --source app",
+        Mode::Ask(Question::Names(NameWords {
+            source: "app",
+            perm: "add",
+        })),
+        1_048_576,
+    ),
+    (
+        "svcmgr diff r c s d",
+        Mode::Ask(Question::Diff {
+            files: OTHER_FILES,
+            by_rules: false,
+        }),
+        1_048_576,
+    ),
+    (
+        "svcmgr diff r c s --rules d",
+        Mode::Ask(Question::Diff {
+            files: OTHER_FILES,
+            by_rules: true,
+        }),
         1_048_576,
     ),
 ];
