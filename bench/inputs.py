@@ -18,8 +18,8 @@ SERVER_TYPES = 50
 @dataclass(frozen=True)
 class Input:
     """One input: `size` is what grows, and `requests` the number of a script's lines. Without a script, a policy is to
-    be checked, or a question about it is to be answered: `access`, `rules`, `unused`, `diff` with itself, or
-    `check --all` of a policy that is refused. The script of `suggest` is a log."""
+    be checked, or a question about it is to be answered: `access`, `rules`, `unused`, `types`, `diff` with itself, also
+    with `--rules`, or `check --all` of a policy that is refused. The script of `suggest` is a log."""
 
     name: str
     size: int
@@ -360,7 +360,7 @@ def all_inputs(seed: int, part: int = 1) -> Iterator[Input]:
         for n in sizes(600, 1200, 2400):
             rules, contexts = lambda n=n: broken_policy(n, 29, seed), lambda n=n: policy_contexts(n)
             yield Input(f"{question}: 29 broken rules", n, rules, contexts, question=question)
-    for question in ("access", "rules", "unused", "diff"):
+    for question in ("access", "rules", "unused", "types", "diff", "diff --rules"):
         for n in sizes(1000, 2000, 4000):
             rules, contexts = lambda n=n: policy(n, seed), lambda n=n: policy_contexts(n)
             yield Input(f"{question}: types", n, rules, contexts, question=question)
